@@ -1,0 +1,13 @@
+pub mod Accepted
+pub mod Balance
+pub mod Checked
+pub mod Each
+pub mod Merges
+pub mod Moves
+pub mod Places
+pub mod Fresh
+pub mod Limits
+pub mod Same
+pub mod Statements
+pub mod Tabled
+pub mod Totals

@@ -1,0 +1,9 @@
+pub mod Refusals
+pub mod Numbers
+pub mod Counter
+pub mod Tallies
+pub mod Lawful
+pub mod Accounts
+pub mod Bookings
+pub mod Joins
+pub mod Laws

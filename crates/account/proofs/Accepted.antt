@@ -9,14 +9,15 @@ use lib.Dec.{ltb, leb}
 use lib.IntN.{ℤ, pos, _-ℤ_}
 use lib.Signed.{ltZ}
 use Rattle.std.proofs.shelf.Signed.{ints}
-use Rattle.std.proofs.shelf.Tests.{ltb-false, leb-true}
+use Rattle.std.proofs.shelf.Tests.{ltb-false, leb-true, and-parts, not-false}
 use Rattle.std.proofs.shelf.Ways.{tells}
 use Rattle.std.specs.declared.result.Result.{Result}
 use Rattle.std.specs.declared.result.Result.the-variants.{Ok, Err}
 use Rattle.account.specs.Accounts.{checked, or-else, account-or}
-use Rattle.account.specs.Bookings.{booking, booking-checks, amount-check, booked}
+use Rattle.account.specs.Bookings.{amount-ok, in-range, booking, booking-checks, range-check, booked}
 use Rattle.account.specs.Counter.{Counter, had, gave, rights}
 use Rattle.account.specs.Lawful.{lawful}
+use Rattle.account.specs.Numbers.{number-ok}
 use Rattle.account.specs.Refusals.{Check, unless}
 use Rattle.account.specs.Tallies.{limit, counter-of, tally-of}
 use Rattle.account.specs.declared.account.Account.{Account}
@@ -48,18 +49,19 @@ passed (c ∷ cs) x u e =
 spared : (h g n : ℕ) → ltZ (pos h -ℤ pos g) (pos n) ≡ false → g + n ≤ h
 spared h g n e = grind (arith, ints, tells)
 
-kept-booked : (t : Tally) (p : ℕ) (b : Booking) → 1 ≤ p → p ≤ 8 → Kept (counter-of t) → Passed (booking-checks t p b) → Kept (booked (counter-of t) p b)
-kept-booked t p (TakeIn n) p1 p8 k s = kept-handed (counter-of t) p p n p1 p8 p1 p8 k (ltb-false limit _ (s .0)) (λ ne. absurd (ne refl))
-kept-booked t p (Issue n) p1 p8 k s =
+kept-booked : (t : Tally) (p : ℕ) (b : Booking) → 1 ≤ p → p ≤ 8 → Kept (counter-of t) → in-range b ≡ true → Passed (booking-checks t p b) → Kept (booked (counter-of t) p b)
+kept-booked t p (TakeIn n) p1 p8 k r s = kept-handed (counter-of t) p p n p1 p8 p1 p8 k (ltb-false limit _ (s .0)) (λ ne. absurd (ne refl))
+kept-booked t p (Issue n) p1 p8 k r s =
     kept-issued (counter-of t) p n k (ltb-false limit _ (s .1 .0)) (spared (had (counter-of t) p) (gave (counter-of t) p) n (s .0))
-kept-booked t p (HandOver n q) p1 p8 k s =
-    kept-handed (counter-of t) p (q .number) n p1 p8 (q .least) (q .most) k (ltb-false limit _ (s .1 .1 .0)) (λ _. spared (had (counter-of t) p) (gave (counter-of t) p) n (s .1 .0))
+kept-booked t p (HandOver n q) p1 p8 k r s =
+    let other = and-parts (leb 1 q) (leb q 8) (and-parts (amount-ok n) (number-ok q) r .1) in
+    kept-handed (counter-of t) p q n p1 p8 (leb-true 1 q (other .0)) (leb-true q 8 (other .1)) k (ltb-false limit _ (s .1 .1 .0)) (λ _. spared (had (counter-of t) p) (gave (counter-of t) p) n (s .1 .0))
 
 pub booking-lawful : (t : Tally) → lawful t ≡ true → (p : ℕ) → 1 ≤ p → p ≤ 8 → (b : Booking) (u : Tally) → booking t p b ≡ Ok u → lawful u ≡ true
 booking-lawful t law p p1 p8 b u e =
-    let s = passed (amount-check b ∷ booking-checks t p b) (tally-of (booked (counter-of t) p b)) u e in
+    let s = passed (range-check b ∷ booking-checks t p b) (tally-of (booked (counter-of t) p b)) u e in
     let k = kept-by (counter-of t) (law-ranged t law) (law-covered t law) in
-    subst (λ (v : Tally). lawful v ≡ true) (s .1) (lawful-of (booked (counter-of t) p b) (kept-booked t p b p1 p8 k (s .0 .1)))
+    subst (λ (v : Tally). lawful v ≡ true) (s .1) (lawful-of (booked (counter-of t) p b) (kept-booked t p b p1 p8 k (not-false (in-range b) (s .0 .0)) (s .0 .1)))
 
 -- the account of lawful numbers
 pub account-is : (t : Tally) (law : lawful t ≡ true) (a : Account) → _≡_ {A = Account} (record { tally = t; law = law }) (account-or t a)

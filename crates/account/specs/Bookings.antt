@@ -9,6 +9,7 @@ use Rattle.std.specs.declared.result.Result.{Result}
 use Rattle.std.specs.declared.result.Result.the-variants.{Ok, Err}
 use Rattle.account.specs.Accounts.{account-or}
 use Rattle.account.specs.Counter.{Counter, increment, decrement, transfer}
+use Rattle.account.specs.Numbers.{number-ok}
 use Rattle.account.specs.Refusals.{Check, refuse, unless}
 use Rattle.account.specs.Tallies.{limit, handed, issued-by, free, counter-of, tally-of}
 use Rattle.account.specs.declared.account.Account.{Account}
@@ -27,8 +28,13 @@ amount-of (HandOver n q) = n
 abbrev pub amount-ok : ℕ → Bool
 amount-ok n = leb 1 n && leb n limit
 
-abbrev pub amount-check : Booking → Check
-amount-check b = refuse (not (amount-ok (amount-of b))) OutOfRange
+abbrev pub in-range : Booking → Bool
+in-range (TakeIn n) = amount-ok n
+in-range (Issue n) = amount-ok n
+in-range (HandOver n q) = amount-ok n && number-ok q
+
+abbrev pub range-check : Booking → Check
+range-check b = refuse (not (in-range b)) OutOfRange
 
 -- more than depot p's free stock
 abbrev pub free-check : Tally → ℕ → ℕ → Check
@@ -38,21 +44,21 @@ free-check t p n = refuse (ltZ (free t p) (pos n)) NotEnoughFree
 abbrev pub limit-check : ℕ → Check
 limit-check n = refuse (ltb limit n) LimitPassed
 
--- what depot p's booking has to keep besides its amount
+-- what depot p's booking has to keep besides the ranges
 abbrev pub booking-checks : Tally → ℕ → Booking → List Check
 booking-checks t p (TakeIn n) = limit-check (handed t p p + n) ∷ []
 booking-checks t p (Issue n) = free-check t p n ∷ limit-check (issued-by t p + n) ∷ []
-booking-checks t p (HandOver n q) = refuse (eqb (q .number) p) OwnDepot ∷ free-check t p n ∷ limit-check (handed t p (q .number) + n) ∷ []
+booking-checks t p (HandOver n q) = refuse (eqb q p) OwnDepot ∷ free-check t p n ∷ limit-check (handed t p q + n) ∷ []
 
 -- the counter after an accepted booking
 abbrev pub booked : Counter → ℕ → Booking → Counter
 booked c p (TakeIn n) = increment c p n
 booked c p (Issue n) = decrement c p n
-booked c p (HandOver n q) = transfer c p (q .number) n
+booked c p (HandOver n q) = transfer c p q n
 
 -- the numbers after a booking, or its refusal
 abbrev pub booking : Tally → ℕ → Booking → Result Tally Refusal
-booking t p b = unless (amount-check b ∷ booking-checks t p b) (tally-of (booked (counter-of t) p b))
+booking t p b = unless (range-check b ∷ booking-checks t p b) (tally-of (booked (counter-of t) p b))
 
 -- what the depot is told: its free stock, which an account never has below 0
 abbrev pub free-told : ℕ → Result Tally Refusal → Result ℕ Refusal

@@ -8,7 +8,7 @@ use lib.Signed.{_≤ℤ_}
 use Rattle.std.specs.declared.option.Option.the-variants.{Some}
 use Rattle.std.specs.declared.result.Result.the-variants.{Ok}
 use Rattle.account.specs.Accounts.{checked, fresh-answer}
-use Rattle.account.specs.Bookings.{amount-check, booking-checks, booking}
+use Rattle.account.specs.Bookings.{range-check, booking-checks, booking}
 use Rattle.account.specs.Counter.{added, used}
 use Rattle.account.specs.Joins.{join-checks, join-answer, joined}
 use Rattle.account.specs.Refusals.{ascend}
@@ -83,4 +83,4 @@ AcceptedIsLawful =
 -- of several refusals that fit, the lowest number is answered
 abbrev pub LowestRefusalAnswers : Type 0
 LowestRefusalAnswers =
-    ((t : Tally) (p : ℕ) (b : Booking) → ascend (amount-check b ∷ booking-checks t p b) ≡ true) × ((t u : Tally) → ascend (join-checks t u) ≡ true)
+    ((t : Tally) (p : ℕ) (b : Booking) → ascend (range-check b ∷ booking-checks t p b) ≡ true) × ((t u : Tally) → ascend (join-checks t u) ≡ true)

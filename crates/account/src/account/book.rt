@@ -38,7 +38,7 @@ impl Account {
         &mut self,
         depot: DepotNumber,
         amount: u32,
-        to: DepotNumber,
+        to: u32,
     ) -> Result<u64, Refusal>
         ensures answer { λ r. ⌜ r ≡ free-told (depot .number) (booking (now (self .entry) .tally) (depot .number) (HandOver amount to)) ⌝ }
         ensures after { λ _. ⌜ now (self .exit) ≡ account-after (now (self .entry)) (booking (now (self .entry) .tally) (depot .number) (HandOver amount to)) ⌝ }
@@ -60,26 +60,25 @@ impl Account {
     fn booked(&self, depot: DepotNumber, entry: Booking) -> Result<Tally, Refusal>
         ensures { λ r. ⌜ r ≡ booking (now (self .entry) .tally) (depot .number) entry ⌝ }
     {
-        let amount = entry.amount();
-        if amount < 1 || amount > LIMIT {
+        if !entry.is_in_range() {
             return Err(Refusal::OutOfRange);
         }
         match entry {
-            Booking::TakeIn { .. } => self.handed(depot, depot, amount),
-            Booking::Issue { .. } => {
+            Booking::TakeIn { amount } => self.handed(depot, depot, amount),
+            Booking::Issue { amount } => {
                 if self.lacks(depot, amount) {
                     return Err(Refusal::NotEnoughFree);
                 }
                 self.issued(depot, amount)
             }
-            Booking::HandOver { to, .. } => {
-                if to.number() == depot.number() {
+            Booking::HandOver { amount, to } => {
+                if to == depot.number() {
                     return Err(Refusal::OwnDepot);
                 }
                 if self.lacks(depot, amount) {
                     return Err(Refusal::NotEnoughFree);
                 }
-                self.handed(depot, to, amount)
+                self.handed(depot, DepotNumber::at(to as usize - 1), amount)
             }
         }
     }

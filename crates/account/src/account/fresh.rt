@@ -38,6 +38,14 @@ fn zeros(reserve: u32) -> Tally
 }
 
 impl Account {
+    // An account with nothing in it, as a place to copy another to.
+    pub fn blank() -> Account
+        ensures { λ r. ⌜ r .tally ≡ fresh 0 ⌝ }
+    {
+        let tally = zeros(0);
+        Account { tally }
+    }
+
     // An account with a reserve and no goods booked yet.
     pub fn fresh(reserve: u32) -> Result<Account, Refusal>
         ensures { λ r. ⌜ numbers-in r ≡ fresh-answer reserve ⌝ }

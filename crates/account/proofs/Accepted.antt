@@ -9,7 +9,7 @@ use lib.Dec.{ltb, leb}
 use lib.IntN.{ℤ, pos, _-ℤ_}
 use lib.Signed.{ltZ}
 use Rattle.std.proofs.shelf.Signed.{ints}
-use Rattle.std.proofs.shelf.Tests.{ltb-false, leb-true, and-parts, not-false}
+use Rattle.std.proofs.shelf.Tests.{ltb-false, leb-true, and-parts, not-false, cond-false}
 use Rattle.std.proofs.shelf.Ways.{tells}
 use Rattle.std.specs.declared.result.Result.{Result}
 use Rattle.std.specs.declared.result.Result.the-variants.{Ok, Err}
@@ -44,6 +44,10 @@ passed (c ∷ cs) x u e =
     let first = first-passed (c .fails) (c .refusal) (unless cs x) u e in
     let rest = passed cs x u (first .1) in
     ((first .0, rest .0), rest .1)
+
+pub all-pass : {X : Type 0} (cs : List Check) (x : X) → Passed cs → unless cs x ≡ Ok x
+all-pass [] x s = refl
+all-pass (c ∷ cs) x s = cond-false (c .fails) (Err (c .refusal)) (unless cs x) (s .0) ∙ all-pass cs x (s .1)
 
 -- enough free stock
 spared : (h g n : ℕ) → ltZ (pos h -ℤ pos g) (pos n) ≡ false → g + n ≤ h

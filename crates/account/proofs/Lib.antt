@@ -1,4 +1,5 @@
 pub mod Accepted
+pub mod Advising
 pub mod Balance
 pub mod Checked
 pub mod Each

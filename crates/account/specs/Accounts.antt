@@ -4,13 +4,14 @@ use mathlib.Core.Bool.{Bool, true, false}
 use mathlib.Core.List.{[], _∷_}
 use Prim.Native.Nat.{ℕ}
 use lib.Dec.{ltb}
+use lib.IntN.{natAbs}
 use Rattle.std.specs.declared.option.Option.{Option}
 use Rattle.std.specs.declared.option.Option.the-variants.{Some, None}
 use Rattle.std.specs.declared.result.Result.{Result}
 use Rattle.account.specs.Counter.{empty}
 use Rattle.account.specs.Lawful.{lawful}
 use Rattle.account.specs.Refusals.{refuse, unless}
-use Rattle.account.specs.Tallies.{limit, tally-of}
+use Rattle.account.specs.Tallies.{limit, tally-of, free, stock}
 use Rattle.account.specs.declared.account.Account.{Account}
 use Rattle.account.specs.declared.refusal.Refusal.{Refusal}
 use Rattle.account.specs.declared.refusal.Refusal.the-variants.{OutOfRange}
@@ -38,3 +39,10 @@ fresh r = tally-of (empty r)
 
 abbrev pub fresh-answer : ℕ → Result Tally Refusal
 fresh-answer r = unless (refuse (ltb limit r) OutOfRange ∷ []) (fresh r)
+
+-- the free stock of depot j and the stock as natural numbers; in an account neither is below 0
+abbrev pub free-of : Account → ℕ → ℕ
+free-of a j = natAbs (free (a .tally) j)
+
+abbrev pub stock-of : Account → ℕ
+stock-of a = natAbs (stock (a .tally))

@@ -6,4 +6,5 @@ pub mod Lawful
 pub mod Accounts
 pub mod Bookings
 pub mod Joins
+pub mod Advice
 pub mod Laws

@@ -4,6 +4,7 @@ ghost use mathlib.Core.Bool.{true};
 ghost use Rattle.account.specs.Lawful.{lawful};
 use crate::tally::Tally;
 
+pub mod advice;
 pub mod book;
 pub mod equal;
 pub mod figures;

@@ -34,12 +34,7 @@ impl Account {
     }
 
     // A depot hands free stock over to another. Answers what is left of it.
-    pub fn hand_over(
-        &mut self,
-        depot: DepotNumber,
-        amount: u32,
-        to: u32,
-    ) -> Result<u64, Refusal>
+    pub fn hand_over(&mut self, depot: DepotNumber, amount: u32, to: u32) -> Result<u64, Refusal>
         ensures answer { λ r. ⌜ r ≡ free-told (depot .number) (booking (now (self .entry) .tally) (depot .number) (HandOver amount to)) ⌝ }
         ensures after { λ _. ⌜ now (self .exit) ≡ account-after (now (self .entry)) (booking (now (self .entry) .tally) (depot .number) (HandOver amount to)) ⌝ }
     {

@@ -1,0 +1,5 @@
+pub mod Books
+pub mod Creates
+pub mod Files
+pub mod Restarts
+pub mod Spent

@@ -1,0 +1,5 @@
+pub mod Least
+pub mod Walks
+pub mod Spots
+pub mod Puts
+pub mod Emptied

@@ -1,0 +1,3 @@
+// A store in lent memory.
+pub mod slot;
+pub mod table;

@@ -1,0 +1,5 @@
+pub mod Backs
+pub mod Cuts
+pub mod Numbers
+pub mod Onlys
+pub mod Words

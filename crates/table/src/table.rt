@@ -18,8 +18,8 @@ const SLOTS: usize = 64;
 
 const NO_COUNTS: Row = Row { counts: [0; 8] };
 
-// Unused.
-const EMPTY: Slot = Slot {
+// An unused slot.
+pub const EMPTY: Slot = Slot {
     part: 0,
     version: 0,
     tally: Tally {

@@ -89,7 +89,7 @@ pub impl fmt::Display for Refusal as RefusalDisplay {
             Refusal::OwnDepot => write!(f, "a depot hands nothing over to itself"),
             Refusal::NotEnoughFree => write!(f, "more than the own free stock in the draft"),
             Refusal::OtherReserve => write!(f, "the reserve is not the stored one"),
-            Refusal::Contradiction => write!(f, "the item contradicts the books"),
+            Refusal::Contradiction => write!(f, "the counts contradict the books"),
             Refusal::LimitPassed => write!(f, "a count or a version would pass 1,000,000,000"),
             Refusal::VersionMoved => write!(f, "the stored version is no longer the draft's"),
             Refusal::StoreRefused { layer } => {

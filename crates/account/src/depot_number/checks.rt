@@ -16,7 +16,7 @@ impl DepotNumber {
         Ok(DepotNumber { number })
     }
 
-    // The depots of a desk with three.
+    // The first three depots.
     pub fn first() -> DepotNumber
         ensures { λ r. ⌜ r .number ≡ 1 ⌝ }
     {

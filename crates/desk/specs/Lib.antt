@@ -1,3 +1,4 @@
 pub mod Deeds
 pub mod Places
 pub mod Desks
+pub mod Feeds

@@ -5,6 +5,7 @@ use store::window::WindowStore;
 use table::table::Table;
 use table::table::TableStore;
 
+pub mod feed;
 pub mod line;
 pub mod start;
 

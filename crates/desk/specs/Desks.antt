@@ -52,6 +52,11 @@ desk-view d = record { one = table-place (d .one); two = table-place (d .two); t
 
 -- A START
 
+abbrev pub number-at : Which → ℕ
+number-at One = 1
+number-at Two = 2
+number-at Three = 3
+
 -- a depot on a store, with no slip yet
 abbrev pub fresh-place : ℕ → Meaning → PlaceView
 fresh-place n m = record { depot = fresh-view n m; slip = None }
@@ -59,9 +64,9 @@ fresh-place n m = record { depot = fresh-view n m; slip = None }
 -- three depots on emptied tables; the third sees the parts 1 to 50 of its own
 abbrev pub start-view : List Slot → List Slot → List Slot → DeskView
 start-view a b c = record {
-  one = fresh-place 1 (table-meaning (emptied a));
-  two = fresh-place 2 (table-meaning (emptied b));
-  three = fresh-place 3 (seen (table-meaning (emptied c)) 0 50);
+  one = fresh-place (number-at One) (table-meaning (emptied a));
+  two = fresh-place (number-at Two) (table-meaning (emptied b));
+  three = fresh-place (number-at Three) (seen (table-meaning (emptied c)) 0 50);
 }
 
 -- A LINE

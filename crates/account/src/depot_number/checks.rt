@@ -16,25 +16,6 @@ impl DepotNumber {
         Ok(DepotNumber { number })
     }
 
-    // The first three depots.
-    pub fn first() -> DepotNumber
-        ensures { λ r. ⌜ r .number ≡ 1 ⌝ }
-    {
-        DepotNumber { number: 1 }
-    }
-
-    pub fn second() -> DepotNumber
-        ensures { λ r. ⌜ r .number ≡ 2 ⌝ }
-    {
-        DepotNumber { number: 2 }
-    }
-
-    pub fn third() -> DepotNumber
-        ensures { λ r. ⌜ r .number ≡ 3 ⌝ }
-    {
-        DepotNumber { number: 3 }
-    }
-
     pub fn number(self) -> u32
         ensures { λ r. ⌜ r ≡ self .number ⌝ }
     {

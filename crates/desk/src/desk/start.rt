@@ -1,11 +1,12 @@
 // A desk with empty depots.
 ghost use mathlib.Core.Path.{_≡_};
-ghost use Rattle.desk.specs.Desks.{table-place, window-place, desk-view, fresh-place, start-view};
+ghost use Rattle.desk.specs.Desks.{number-at, table-place, window-place, desk-view, fresh-place, start-view};
 ghost use Rattle.store.specs.Windows.{seen};
 ghost use Rattle.table.specs.Tables.{table-meaning, emptied};
 use super::Desk;
 use crate::place::Place;
 use crate::pocket::Pocket;
+use crate::which::Which;
 use account::depot_number::DepotNumber;
 use depot::depot::Depot;
 use store::window::Window;
@@ -18,6 +19,21 @@ use table::table::TableStore;
 const OFFSET: u32 = 0;
 
 const WIDTH: u32 = 50;
+
+// The number of a depot at the desk.
+fn number(depot: Which) -> DepotNumber
+    ensures { λ r. ⌜ r .number ≡ number-at depot ⌝ }
+{
+    let n = match depot {
+        Which::One => 1,
+        Which::Two => 2,
+        Which::Three => 3,
+    };
+    match DepotNumber::new(n) {
+        Ok(number) => number,
+        Err(_) => unreachable(),
+    }
+}
 
 // A depot on a table.
 fn on_table(number: DepotNumber, slots: &mut [Slot]) -> Place<Table<'_>>
@@ -46,9 +62,9 @@ impl<'a> Desk<'a> {
         ensures { λ r. ⌜ desk-view r ≡ start-view (now (one .entry)) (now (two .entry)) (now (three .entry)) ⌝ }
     {
         Desk {
-            one: on_table(DepotNumber::first(), one),
-            two: on_table(DepotNumber::second(), two),
-            three: on_window(DepotNumber::third(), three),
+            one: on_table(number(Which::One), one),
+            two: on_table(number(Which::Two), two),
+            three: on_window(number(Which::Three), three),
         }
     }
 }

@@ -3,7 +3,7 @@ pub mod account;
 pub mod booking;
 mod counts;
 pub mod depot_number;
-pub mod equal;
+mod equal;
 mod figures;
 mod joins;
 pub mod laws;

@@ -69,5 +69,5 @@ pub record Leaves (v : View) (ts : List Till) (n : ℕ) (put : Option Put) (w : 
 
 -- one thing where a call is accepted, another where it is refused
 abbrev pub by-answer : {X Y : Type 0} → Result X Refusal → Y → Y → Y
-by-answer (Ok x) yes-so not-so = yes-so
-by-answer (Err e) yes-so not-so = not-so
+by-answer (Ok x) accepted refused = accepted
+by-answer (Err e) accepted refused = refused

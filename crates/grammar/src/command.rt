@@ -1,11 +1,11 @@
 // What a line asks of a depot.
-#[derive(Clone, Copy, PartialEq, Eq, Debug)]
+#[derive(Clone, Copy)]
 pub struct Command {
     pub depot: u64,
     pub deed: Deed,
 }
 
-#[derive(Clone, Copy, PartialEq, Eq, Debug)]
+#[derive(Clone, Copy)]
 pub enum Deed {
     Create { part: u64, reserve: u64 },
     Open { part: u64 },

@@ -68,17 +68,3 @@ impl Command {
         asked_by(Word::read(first)?, fields)
     }
 }
-
-// Every command is read back from its printed form.
-pub fn every_command_reads_back() -> u8
-    ensures { λ _. ⌜ ReadsBack ⌝ }
-{
-    0
-}
-
-// A line that is read as a command is the command's word and fields that write its numbers.
-pub fn only_commands_are_read() -> u8
-    ensures { λ _. ⌜ ReadsOnly ⌝ }
-{
-    0
-}

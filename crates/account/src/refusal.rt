@@ -4,7 +4,7 @@ ghost use Rattle.account.specs.Refusals.{number_of};
 
 use std::fmt;
 
-#[derive(Clone, Copy)]
+#[derive(Clone, Copy, PartialEq, Eq, Debug)]
 pub enum Refusal {
     // 1
     OutOfRange,
@@ -67,40 +67,37 @@ impl Refusal {
             Refusal::UnknownLine => 17,
         }
     }
-
-    // The refusal in words, without its place or layer.
-    fn words(self) -> &'static str {
-        match self {
-            Refusal::OutOfRange => "an argument is outside its range",
-            Refusal::CutShort { .. } => "the bytes end too early",
-            Refusal::Malformed { .. } => "a number is malformed or bytes are left over",
-            Refusal::OtherKind { .. } => "the item is of another kind",
-            Refusal::NoAccount => "the part has no account here",
-            Refusal::AccountExists => "the part has an account already",
-            Refusal::TillTaken => "the till has a draft",
-            Refusal::NoDraft => "the slip is not that of a draft at this depot",
-            Refusal::OwnDepot => "a depot hands nothing over to itself",
-            Refusal::NotEnoughFree => "more than the own free stock in the draft",
-            Refusal::OtherReserve => "the reserve is not the stored one",
-            Refusal::Contradiction => "the counts contradict the books",
-            Refusal::LimitPassed => "a count or a version would pass 1,000,000,000",
-            Refusal::VersionMoved => "the stored version is no longer the draft's",
-            Refusal::StoreRefused { .. } => "the store takes no such put",
-            Refusal::NoRoom => "the bytes do not fit",
-            Refusal::UnknownLine => "the line is none of the program's",
-        }
-    }
 }
 
 impl fmt::Display for Refusal {
     fn fmt<W: fmt::Write>(&self, f: &mut fmt::Formatter<W>) -> fmt::Result {
-        let words = self.words();
         match *self {
-            Refusal::CutShort { place }
-            | Refusal::Malformed { place }
-            | Refusal::OtherKind { place } => write!(f, "{words}, at place {place}"),
-            Refusal::StoreRefused { layer } => write!(f, "layer {layer} of {words}"),
-            _ => f.write_str(words),
+            Refusal::OutOfRange => write!(f, "an argument is outside its range"),
+            Refusal::CutShort { place } => write!(f, "the bytes end too early, at place {place}"),
+            Refusal::Malformed { place } => {
+                write!(
+                    f,
+                    "a number is malformed or bytes are left over, at place {place}"
+                )
+            }
+            Refusal::OtherKind { place } => {
+                write!(f, "the item at place {place} is of another kind")
+            }
+            Refusal::NoAccount => write!(f, "the part has no account here"),
+            Refusal::AccountExists => write!(f, "the part has an account already"),
+            Refusal::TillTaken => write!(f, "the till has a draft"),
+            Refusal::NoDraft => write!(f, "the slip is not that of a draft at this depot"),
+            Refusal::OwnDepot => write!(f, "a depot hands nothing over to itself"),
+            Refusal::NotEnoughFree => write!(f, "more than the own free stock in the draft"),
+            Refusal::OtherReserve => write!(f, "the reserve is not the stored one"),
+            Refusal::Contradiction => write!(f, "the counts contradict the books"),
+            Refusal::LimitPassed => write!(f, "a count or a version would pass 1,000,000,000"),
+            Refusal::VersionMoved => write!(f, "the stored version is no longer the draft's"),
+            Refusal::StoreRefused { layer } => {
+                write!(f, "layer {layer} of the store takes no such put")
+            }
+            Refusal::NoRoom => write!(f, "the bytes do not fit"),
+            Refusal::UnknownLine => write!(f, "the line is none of the program's"),
         }
     }
 }

@@ -3,7 +3,7 @@ use Rattle.std.proofs.Common.{◌≡◌, ℕ, ◌-◌, Bool, true, false, cond, 
 use lib.Seq.{set-get_or}
 use Rattle.std.proofs.lemmas.Bool.{both_ways}
 use Rattle.account.specs.Bookings.{range_check, booking_checks, booking, booked, free_told, account_after}
-use Rattle.account.specs.Refusals.{Check, given, unless, by_answer}
+use Rattle.account.specs.Refusals.{Check, given, unless}
 use Rattle.account.specs.Tallies.{free, counter_of, tally_of}
 use Rattle.account.specs.declared.booking.Booking.{Booking}
 use Rattle.account.specs.declared.refusal.Refusal.{Refusal}
@@ -12,7 +12,7 @@ use Rattle.account.specs.declared.tally.Tally.{Tally}
 use Rattle.store.specs.Meaning.{Meaning}
 use Rattle.depot.specs.Drafts.{book_checks, book_answer, booked_till, free_after, Booked}
 use Rattle.depot.specs.Tills.{draft_in, till_answer, till_after, with_account}
-use Rattle.depot.specs.Views.{View, view, till_ok, till_of, with_till, draft_at, draft_of}
+use Rattle.depot.specs.Views.{View, view, till_ok, till_of, with_till, draft_at, draft_of, by_answer}
 use Rattle.depot.specs.declared.depot.Inner.{Inner}
 use Rattle.depot.specs.declared.slip.Slip.{Slip}
 use Rattle.depot.specs.declared.till.Draft.{Draft}

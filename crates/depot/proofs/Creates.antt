@@ -3,7 +3,7 @@ use Rattle.std.proofs.Common.{◌≡◌, ℕ, ◌≤◌, Bool, true, false, not,
 use Rattle.std.proofs.lemmas.Bool.{and_from, not_from_true, le-leb}
 use Rattle.std.specs.Option.{option_map}
 use Rattle.account.specs.Accounts.{checked, fresh, fresh_answer}
-use Rattle.account.specs.Refusals.{refuse, by_answer}
+use Rattle.account.specs.Refusals.{refuse}
 use Rattle.account.specs.Tallies.{limit}
 use Rattle.account.specs.declared.account.Account.{Account}
 use Rattle.account.specs.declared.refusal.Refusal.{Refusal}
@@ -14,7 +14,7 @@ use Rattle.account.proofs.Checked.{checked-account}
 use Rattle.store.specs.Meaning.{Meaning, Record, Took, part_ok, put_checks, put_answer}
 use Rattle.depot.specs.Accounts.{create_checks, create_answer, create_put, first_put, Created}
 use Rattle.depot.specs.Records.{kept_in}
-use Rattle.depot.specs.Views.{view, Put, Stored}
+use Rattle.depot.specs.Views.{view, Put, Stored, by_answer}
 use Rattle.depot.specs.declared.depot.Inner.{Inner}
 
 pub some_kept : (o : Option Record) → is_some (kept_in o) ≡ is_some o

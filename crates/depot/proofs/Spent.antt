@@ -7,12 +7,11 @@ use Rattle.account.specs.declared.booking.Booking.{Booking}
 use Rattle.account.specs.declared.refusal.Refusal.{Refusal}
 use Rattle.account.proofs.Accepted.{passed}
 use Rattle.store.specs.Meaning.{Record}
-use Rattle.account.specs.Refusals.{by_answer}
 use Rattle.depot.specs.Accounts.{create_put}
 use Rattle.depot.specs.Drafts.{open_checks, open_answer, opened_till, version_of, book_answer, booked_till, idled, Opened, Booked, Filed, Dropped}
 use Rattle.depot.specs.Laws.{Leads, here, creating, opening, booking, filing, dropping, restarting, Given, OpenedSlipIsGiven, SpentSlipNamesNoDraft}
 use Rattle.depot.specs.Tills.{draft_in, with_account}
-use Rattle.depot.specs.Views.{View, till_ok, till_of, with_till, draft_at, draft_of, Leaves, Put}
+use Rattle.depot.specs.Views.{View, till_ok, till_of, with_till, draft_at, draft_of, Leaves, Put, by_answer}
 use Rattle.depot.specs.declared.slip.Declined.{Declined}
 use Rattle.depot.specs.declared.slip.Slip.{Slip}
 use Rattle.depot.specs.declared.till.Draft.{Draft}

@@ -4,14 +4,14 @@ use Rattle.std.specs.Option.{option_map}
 use Rattle.account.specs.Accounts.{checked, fresh, free_of, stock_of}
 use Rattle.account.specs.Advice.{best_of, number_if}
 use Rattle.account.specs.Bookings.{amount_ok}
-use Rattle.account.specs.Refusals.{Check, refuse, given, unless, by_answer}
+use Rattle.account.specs.Refusals.{Check, refuse, given, unless}
 use Rattle.account.specs.Tallies.{limit}
 use Rattle.account.specs.declared.account.Account.{Account}
 use Rattle.account.specs.declared.depot_number.DepotNumber.{DepotNumber}
 use Rattle.account.specs.declared.refusal.Refusal.{Refusal}
 use Rattle.account.specs.declared.refusal.Refusal.TheVariants.{OutOfRange, NoAccount, AccountExists, StoreRefused}
 use Rattle.store.specs.Meaning.{Record, part_ok, allows, refuser}
-use Rattle.depot.specs.Views.{View, Put, Leaves}
+use Rattle.depot.specs.Views.{View, Put, Leaves, by_answer}
 
 -- CREATING
 

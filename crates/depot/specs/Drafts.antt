@@ -1,7 +1,7 @@
 -- Opening, booking, filing, dropping and restarting.
 use Rattle.std.specs.Prelude.{◌≡◌, ℕ, ◌+◌, Bool, false, not, ◌&&◌, List, [], ◌∷◌, replicate, Some, None, Ok, Err, Option, Result, ◌==◌, unsigned_abs}
 use Rattle.account.specs.Bookings.{limit_check, range_check, booking_checks, booked, booking, account_after}
-use Rattle.account.specs.Refusals.{Check, refuse, given, unless, by_answer}
+use Rattle.account.specs.Refusals.{Check, refuse, given, unless}
 use Rattle.account.specs.Tallies.{free, counter_of, tally_of}
 use Rattle.account.specs.declared.account.Account.{Account}
 use Rattle.account.specs.declared.booking.Booking.{Booking}
@@ -9,7 +9,7 @@ use Rattle.account.specs.declared.refusal.Refusal.{Refusal}
 use Rattle.account.specs.declared.refusal.Refusal.TheVariants.{OutOfRange, NoAccount, TillTaken, NoDraft, VersionMoved, StoreRefused}
 use Rattle.store.specs.Meaning.{Meaning, Record, part_ok, allows, refuser}
 use Rattle.depot.specs.Tills.{is_idle, with_account, drafts}
-use Rattle.depot.specs.Views.{View, till_ok, till_of, with_till, draft_of, Put, Leaves}
+use Rattle.depot.specs.Views.{View, till_ok, till_of, with_till, draft_of, Put, Leaves, by_answer}
 use Rattle.depot.specs.declared.slip.Declined.{Declined}
 use Rattle.depot.specs.declared.slip.Slip.{Slip}
 use Rattle.depot.specs.declared.till.Draft.{Draft}

@@ -1,11 +1,10 @@
 -- What holds of every depot's calls.
-use Rattle.std.specs.Prelude.{◌≡◌, ℕ, ◌≤◌, true, ◌⊎◌, List, None, Ok, Result}
+use Rattle.std.specs.Prelude.{◌≡◌, ℕ, ◌≤◌, true, ◌⊎◌, None, Ok, Result}
 use Rattle.account.specs.Refusals.{ascend}
 use Rattle.account.specs.declared.booking.Booking.{Booking}
 use Rattle.account.specs.declared.refusal.Refusal.{Refusal}
 use Rattle.depot.specs.Accounts.{create_checks, read_checks, advise_checks, Created}
 use Rattle.depot.specs.Drafts.{open_checks, book_checks, file_checks, Opened, Booked, Filed, Dropped, Restarted}
-use Rattle.depot.specs.Sending.{send_checks}
 use Rattle.depot.specs.Views.{View, draft_of}
 use Rattle.depot.specs.declared.slip.Declined.{Declined}
 use Rattle.depot.specs.declared.slip.Slip.{Slip}
@@ -18,7 +17,6 @@ pub record LowestRefusalAnswers : Type 0 where
   pub opening : (v : View) (till part : ℕ) → ascend (open_checks v till part) ≡ true
   pub booking : (v : View) (s : Slip) (b : Booking) → ascend (book_checks v s b) ≡ true
   pub filing : (v : View) (s : Slip) → ascend (file_checks v s) ≡ true
-  pub sending : (v : View) (part : ℕ) (buffer : List ℕ) (place : ℕ) → ascend (send_checks v part buffer place) ≡ true
   pub reading : (v : View) (part : ℕ) → ascend (read_checks v part) ≡ true
   pub advising : (v : View) (part n : ℕ) → ascend (advise_checks v part n) ≡ true
 

@@ -3,5 +3,4 @@ pub mod Views
 pub mod Records
 pub mod Accounts
 pub mod Drafts
-pub mod Sending
 pub mod Laws

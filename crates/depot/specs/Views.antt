@@ -57,3 +57,8 @@ pub record Leaves (v : View) (ts : List Till) (n : ℕ) (put : Option Put) (w : 
   pub tills : w.tills ≡ ts
   pub openings : w.openings ≡ n
   pub store : Stored v.store put w.store
+
+-- one thing where a call is accepted, another where it is refused
+abbrev pub by_answer : {X Y : Type 0} → Result X Refusal → Y → Y → Y
+by_answer (Ok x) accepted refused = accepted
+by_answer (Err e) accepted refused = refused

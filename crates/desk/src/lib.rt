@@ -1,6 +1,5 @@
 // Three depots at one desk: lines in, answers out.
 pub mod desk;
-pub mod outbox;
 pub mod place;
 pub mod pocket;
 pub mod which;

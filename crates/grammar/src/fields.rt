@@ -1,5 +1,5 @@
 // The fields of a line: what stands between its spaces.
-ghost use Rattle.std.specs.Prelude.{◌≡◌, ◌≤◌, ◌∷◌, length, if◌then◌else◌, Some, ◌==◌};
+ghost use Rattle.std.specs.Prelude.{◌≡◌, ◌≤◌, ◌∷◌, length, ◌==◌};
 ghost use Rattle.grammar.specs.Grammar.{fields, digits_value, number_of, first_number, tail, no_more};
 ghost use Rattle.grammar.specs.Steps.{digit_of, behind, left};
 
@@ -81,14 +81,6 @@ impl<'a> Fields<'a> {
         let (field, rest) = cut(&self.rest[1..]);
         self.rest = rest;
         number(field)
-    }
-
-    // The number in the next field if one is wanted, else 0.
-    pub fn number_if(&mut self, wanted: bool) -> Option<u64>
-        ensures value { result ≡ (if wanted then first_number (left self.old) else Some 0) }
-        ensures rest { left self.new ≡ (if wanted then tail (left self.old) else left self.old) }
-    {
-        if wanted { self.number() } else { Some(0) }
     }
 
     // Whether every field was read.

@@ -1,9 +1,4 @@
-// Examples, run: memory as a table finds it, windows over windows, journals of several sizes, items that are refused, and the words of a refusal.
-#[cfg(test)]
-mod items;
-#[cfg(test)]
-mod journals;
-
+// Examples, run: memory as a table finds it, windows over windows, and the words of a refusal.
 #[cfg(test)]
 mod tests {
     use account::account::Account;
@@ -26,15 +21,8 @@ mod tests {
         }
     }
 
-    pub(crate) fn fresh(reserve: u32) -> Result<Account, Fail> {
-        match Account::fresh(reserve) {
-            Ok(account) => Ok(account),
-            Err(refusal) => Err(Fail::new(refusal)),
-        }
-    }
-
     // The version and the stock of a part; 0 and 0 where it is absent.
-    pub(crate) fn found<S: Store>(store: &S, part: u32) -> (u32, u64) {
+    fn found<S: Store>(store: &S, part: u32) -> (u32, u64) {
         let mut account = Account::blank();
         match store.look_up(part, &mut account) {
             Some(version) => (version, account.stock()),
@@ -56,9 +44,9 @@ mod tests {
             for (part, want) in parts {
                 assert_eq!(rt; found(&table, part), want);
             }
-            let account = fresh(12)?;
-            assert!(rt; table.put(8, 1, &account).is_ok());
-            assert!(rt; table.put(7, 4, &account).is_ok());
+            let account = Account::fresh(12)?;
+            assert_eq!(rt; table.put(8, 1, &account), Ok(()));
+            assert_eq!(rt; table.put(7, 4, &account), Ok(()));
             assert_eq!(rt; found(&table, 7), (4, 12));
         }
         assert_eq!(rt; slots[0].part, 8);
@@ -75,16 +63,16 @@ mod tests {
             let mut window = Window::over(Window::over(&mut table, 100, 50), 10, 100);
             assert_eq!(rt; window.greatest(), 40);
             assert_eq!(rt; window.layer(), 2);
-            let account = fresh(3)?;
-            assert!(rt; window.put(40, 1, &account).is_ok());
-            assert!(rt; matches!(window.put(41, 1, &account), Err(Refusal::OutOfRange)));
-            assert!(rt; window.put(1, 1, &account).is_ok());
-            assert!(rt;
-                matches!(
-                    window.put(2, 1, &account),
-                    Err(Refusal::StoreRefused { layer: 0 })
-                )
-            );
+            let account = Account::fresh(3)?;
+            let puts = [
+                (40, Ok(())),
+                (41, Err(Refusal::OutOfRange)),
+                (1, Ok(())),
+                (2, Err(Refusal::StoreRefused { layer: 0 })),
+            ];
+            for (part, want) in puts {
+                assert_eq!(rt; window.put(part, 1, &account), want);
+            }
         }
         assert_eq!(rt; found(&table, 150), (1, 3));
         assert_eq!(rt; found(&table, 111), (1, 3));

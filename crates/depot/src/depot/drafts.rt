@@ -1,10 +1,9 @@
 // Opening a draft, booking on it, filing or dropping it.
 ghost use Rattle.std.specs.Prelude.{◌≡◌, Some, None};
 ghost use Rattle.account.specs.declared.booking.Booking.TheVariants.{TakeIn, Issue, HandOver};
-ghost use Rattle.account.specs.Refusals.{by_answer};
 ghost use Rattle.depot.specs.Drafts.{Opened, Booked, Filed, put_draft_answer, draft_put, Dropped, Restarted};
 ghost use Rattle.depot.specs.Tills.{drafts};
-ghost use Rattle.depot.specs.Views.{view, draft_at, Stored};
+ghost use Rattle.depot.specs.Views.{view, draft_at, Stored, by_answer};
 
 use super::{Depot, Inner};
 use crate::slip::{Declined, Slip};

@@ -1,8 +1,7 @@
 use Rattle.std.proofs.Common.{ℕ, Some, None, Result, refl, subst, arith}
 use Rattle.account.specs.declared.refusal.Refusal.{Refusal}
-use Rattle.account.specs.Refusals.{by_answer}
 use Rattle.depot.specs.Drafts.{draft_put}
-use Rattle.depot.specs.Views.{Stored}
+use Rattle.depot.specs.Views.{Stored, by_answer}
 use Rattle.depot.proofs.Files.{refused_there, kept_there}
 use Rattle.depot.proofs.depot.Depot.put.Goals as goal
 

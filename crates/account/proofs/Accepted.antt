@@ -1,12 +1,12 @@
 -- A booking that is accepted leaves a lawful tally.
-use Rattle.std.proofs.Common.{◌≡◌, ℕ, ◌+◌, ◌≤◌, Bool, true, false, cond, not, ltb, leb, ◌≢◌, List, [], ◌∷◌, ℤ, pos, ◌-ℤ◌, Ok, Err, Result, sym, refl, ap, ◌∙◌, subst, arith}
+use Rattle.std.proofs.Common.{◌≡◌, ℕ, ◌+◌, ◌≤◌, Bool, true, false, cond, leb, List, [], ◌∷◌, pos, ◌-ℤ◌, Ok, Err, Result, sym, refl, ap, ◌∙◌, subst, arith}
 use lib.Signed.{lt_z}
 use Rattle.std.proofs.lemmas.Int.{ints}
 use Rattle.std.proofs.lemmas.Bool.{ltb-false, leb-true, and_parts, not-false, cond-false}
 use Rattle.std.proofs.lemmas.Bool.Decides.{nat_tests}
-use Rattle.account.specs.Accounts.{checked, or_else, account_or}
+use Rattle.account.specs.Accounts.{or_else, account_or}
 use Rattle.account.specs.Bookings.{amount_ok, in_range, booking, booking_checks, range_check, booked}
-use Rattle.account.specs.Counter.{Counter, had, gave, rights}
+use Rattle.account.specs.Counter.{had, gave}
 use Rattle.account.specs.Lawful.{lawful}
 use Rattle.account.specs.Numbers.{number_ok}
 use Rattle.account.specs.Refusals.{Check, unless}

@@ -1,6 +1,6 @@
 -- The best of the depots is the one that the rule names.
-use Rattle.std.proofs.Common.{◌≡◌, ℕ, zero, suc, ◌+◌, ◌<◌, ◌≤◌, Bool, true, false, cond, not, ◌&&◌, eqb, ltb, leb, ◌≢◌, Some, None, Option, sym, refl, ap, ◌∙◌, ⊎_elim, add-one, arith, MatchOption}
-use Rattle.std.proofs.lemmas.Bool.{and_parts, and_from, and_cases, cases_Bool, cases_eq, cond-true, cond-false, not-true, not_from_false, eqb-false, ne_eqb, leb-true, leb-false, le-leb, ltb-true, ltb-false, both_ways}
+use Rattle.std.proofs.Common.{◌≡◌, ℕ, zero, suc, ◌+◌, ◌≤◌, Bool, true, false, cond, not, ◌&&◌, eqb, ltb, leb, ◌≢◌, Some, None, Option, sym, refl, ap, ◌∙◌, ⊎_elim, add-one, arith, MatchOption}
+use Rattle.std.proofs.lemmas.Bool.{and_parts, and_from, and_cases, cases_eq, not-true, not_from_false, eqb-false, ne_eqb, leb-true, le-leb, ltb-true, ltb-false, both_ways}
 use Rattle.account.specs.Accounts.{free_of}
 use Rattle.account.specs.Advice.{serves, better, best_of, Able, Fullest, AdviceNamesTheFullest}
 use Rattle.account.specs.declared.account.Account.{Account}

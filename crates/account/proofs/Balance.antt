@@ -1,10 +1,10 @@
 -- All rights together are what was added less what was used up.
-use Rattle.std.proofs.Common.{◌≡◌, ℕ, zero, suc, ◌+◌, ◌-◌, ◌≤◌, Bool, true, ◌&&◌, ℤ, pos, ◌+ℤ◌, ◌-ℤ◌, ◌≤ℤ◌, sym, refl, ap, ◌∙◌, arith}
+use Rattle.std.proofs.Common.{◌≡◌, ℕ, ◌+◌, ◌-◌, ◌≤◌, true, ◌&&◌, pos, ◌-ℤ◌, arith}
 use Rattle.std.proofs.lemmas.Int.{ints}
 use Rattle.std.proofs.lemmas.Bool.{and_parts}
-use Rattle.account.specs.Counter.{Counter, total, others, added, used, had, gave, rights, value}
+use Rattle.account.specs.Counter.{Counter, total, added, used, had, gave}
 use Rattle.account.specs.Lawful.{shaped, ranged, covered, lawful}
-use Rattle.account.specs.Tallies.{counter_of, free, stock}
+use Rattle.account.specs.Tallies.{counter_of}
 use Rattle.account.specs.declared.tally.Tally.{Tally}
 use Rattle.account.proofs.Limits.{covered-here}
 use Rattle.account.proofs.Totals.{total_add, total-same, total_swap, total_le, others_all}

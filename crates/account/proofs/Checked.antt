@@ -1,5 +1,5 @@
 -- A lawful tally checks to its account.
-use Rattle.std.proofs.Common.{◌≡◌, Bool, true, false, ◌&&◌, Some, None, Option, sym, refl, ap, ◌∙◌, subst}
+use Rattle.std.proofs.Common.{◌≡◌, Bool, true, false, ◌&&◌, Some, None, sym, refl}
 use mathlib.Core.Bool.{Bool-set}
 use Rattle.std.proofs.lemmas.Bool.{both_ways, and_from, and_left, and_right}
 use Rattle.account.specs.Tallies.{counter_of}

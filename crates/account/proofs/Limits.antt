@@ -1,12 +1,12 @@
 -- What the rules say of the numbers, and the loops that test them.
-use Rattle.std.proofs.Common.{◌≡◌, ℕ, ◌+◌, ◌-◌, ◌<◌, ◌≤◌, Bool, true, false, ◌&&◌, eqb, leb, length, get_or, ℤ, pos, ◌-ℤ◌, sym, refl, ap, ◌∙◌, arith}
-use lib.Signed.{le_z, lt_z}
+use Rattle.std.proofs.Common.{◌≡◌, ℕ, ◌+◌, ◌-◌, ◌<◌, ◌≤◌, Bool, true, false, ◌&&◌, eqb, leb, length, get_or, pos, ◌-ℤ◌, sym, refl, ap, ◌∙◌, arith}
+use lib.Signed.{le_z}
 use Rattle.std.proofs.lemmas.Int.{ints}
-use Rattle.std.proofs.lemmas.Bool.{and_parts, and_from, and_left, and_right, eq-eqb, eqb-true, le-leb, lt-leb, leb-true}
+use Rattle.std.proofs.lemmas.Bool.{and_from, and_left, and_right, eq-eqb, le-leb, lt-leb, leb-true}
 use Rattle.std.proofs.lemmas.Bool.Decides.{nat_tests}
 use Rattle.account.specs.Counter.{Counter, rights, had, gave}
 use Rattle.account.specs.Tallies.{limit, no_row, count, row, handed, issued_by, counter_of}
-use Rattle.account.specs.Lawful.{each, shaped, within, ranged, covered, lawful}
+use Rattle.account.specs.Lawful.{each, shaped, within, ranged, covered}
 use Rattle.account.specs.declared.tally.Row.{Row}
 use Rattle.account.specs.declared.tally.Tally.{Tally}
 use Rattle.account.proofs.Each.{each-here, each_from, each_not}

@@ -1,14 +1,14 @@
 -- The join of two accounts, and its laws.
-use Rattle.std.proofs.Common.{◌≡◌, ℕ, ◌≤◌, max, Bool, true, false, not, eqb, Ok, Err, sym, refl, ap, ◌∙◌, arith}
+use Rattle.std.proofs.Common.{◌≡◌, true, false, not, eqb, Ok, Err, sym, ap, ◌∙◌, arith}
 use Rattle.std.proofs.lemmas.Bool.{cond-true, cond-false, eq-eqb}
-use Rattle.account.specs.Counter.{Counter, merge}
+use Rattle.account.specs.Counter.{merge}
 use Rattle.account.specs.Joins.{joined, join_answer}
 use Rattle.account.specs.Lawful.{covered, lawful}
-use Rattle.account.specs.Tallies.{limit, handed, issued_by, counter_of, row_of, tally_of}
+use Rattle.account.specs.Tallies.{counter_of}
 use Rattle.account.specs.declared.refusal.Refusal.TheVariants.{Contradiction}
 use Rattle.account.specs.declared.tally.Tally.{Tally}
 use Rattle.account.proofs.Balance.{law_ranged, law_covered}
-use Rattle.account.proofs.Moves.{Kept, kept_by, ranged_of, lawful_by}
+use Rattle.account.proofs.Moves.{kept_by, ranged_of, lawful_by}
 
 module _ (t u : Tally) (same : t.reserve ≡ u.reserve) where
   one-reserve : not (eqb t.reserve u.reserve) ≡ false

@@ -1,16 +1,14 @@
 -- An accepted booking keeps the law.
-use Rattle.std.proofs.Common.{◌≡◌, ℕ, ◌+◌, ◌<◌, ◌≤◌, Bool, true, false, cond, not, ◌&&◌, eqb, ltb, leb, ◌≢◌, ℤ, pos, sym, refl, ap, ◌∙◌, subst, ⊎_elim, arith}
-use lib.Signed.{lt_z}
+use Rattle.std.proofs.Common.{◌≡◌, ℕ, ◌+◌, ◌≤◌, Bool, true, false, cond, ◌&&◌, eqb, leb, ◌≢◌, sym, refl, ◌∙◌, subst, ⊎_elim, arith}
 use Rattle.std.proofs.lemmas.Bool.{and_parts, and_from, cases_eq, le-leb, leb-true}
 use Rattle.std.proofs.lemmas.Bool.Decides.{nat_tests}
-use Rattle.account.specs.Counter.{Counter, total, others, had, gave, rights, raised, increment, decrement, transfer}
+use Rattle.account.specs.Counter.{Counter, others, had, gave, raised, decrement, transfer}
 use Rattle.account.specs.Lawful.{each, within, ranged, covered, shaped, lawful}
-use Rattle.account.specs.Tallies.{limit, handed, issued_by, free, counter_of, tally_of}
-use Rattle.account.specs.declared.tally.Tally.{Tally}
+use Rattle.account.specs.Tallies.{limit, handed, counter_of, tally_of}
 use Rattle.account.proofs.Each.{each-here, each_from}
 use Rattle.account.proofs.Limits.{within-here, within-from, covered-here, covered-from}
 use Rattle.account.proofs.Tabled.{handed_of, issued_of, shaped_of}
-use Rattle.account.proofs.Totals.{total-same, total_le, others_same, others_le, others-one}
+use Rattle.account.proofs.Totals.{others_same, others_le, others-one}
 
 -- what the two rules say of a counter's numbers
 pub record Kept (c : Counter) : Type 0 where

@@ -1,12 +1,12 @@
 -- The laws of accounts.
-use Rattle.std.proofs.Common.{◌≡◌, ℕ, zero, suc, ◌+◌, ◌≤◌, max, true, ltb, [], ◌∷◌, ℤ, pos, ◌+ℤ◌, ◌-ℤ◌, ◌≤ℤ◌, Some, Ok, sym, refl, ap, ◌∙◌, subst, arith}
+use Rattle.std.proofs.Common.{◌≡◌, ℕ, zero, suc, ◌+◌, ◌≤◌, max, true, ltb, [], ◌∷◌, ℤ, pos, ◌+ℤ◌, ◌-ℤ◌, ◌≤ℤ◌, Some, sym, refl, ap, ◌∙◌, subst, arith}
 use Rattle.std.proofs.lemmas.Int.{ints}
 use Rattle.std.proofs.lemmas.Bool.{ltb-false, not-false}
 use Rattle.account.specs.Accounts.{checked, fresh}
 use Rattle.account.specs.Counter.{total, added, used, had, gave, merge}
 use Rattle.account.specs.Joins.{joined, join_checks}
 use Rattle.account.specs.Lawful.{lawful, covered}
-use Rattle.account.specs.Laws.{FreeStockNeverNegative, FreeStocksAddUp, StockNeverUnderReserve, EqualByNumbers, SameNumbers, Within, JoinCommutes, JoinAssociates, JoinWithItself, JoinHoldsBoth, JoinIsLeast, AcceptedIsLawful, all_of}
+use Rattle.account.specs.Laws.{FreeStockNeverNegative, FreeStocksAddUp, StockNeverUnderReserve, EqualByNumbers, SameNumbers, JoinCommutes, JoinAssociates, JoinWithItself, JoinHoldsBoth, JoinIsLeast, AcceptedIsLawful, all_of}
 use Rattle.account.specs.Refusals.{refuse}
 use Rattle.account.specs.Tallies.{limit, handed, issued_by, counter_of}
 use Rattle.account.specs.declared.account.Account.{Account}

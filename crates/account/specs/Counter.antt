@@ -1,5 +1,5 @@
 -- The bounded counter of eight replicas, by itself. Replicas are numbered from 1.
-use Rattle.std.specs.Prelude.{ℕ, zero, suc, ◌+◌, max, Bool, cond, ◌&&◌, ℤ, pos, ◌+ℤ◌, ◌-ℤ◌, ◌==◌}
+use Rattle.std.specs.Prelude.{ℕ, zero, suc, ◌+◌, max, cond, ◌&&◌, ℤ, pos, ◌-ℤ◌, ◌==◌}
 
 -- R i i is what replica i added, R i j what it passed on to j, U i what it used up; the value stays at or above the minimum
 pub record Counter : Type 0 where

@@ -8,3 +8,5 @@ pub mod Bookings
 pub mod Joins
 pub mod Advice
 pub mod Laws
+pub mod Equality
+pub mod EqualitySound

@@ -1,4 +1,6 @@
 // Stock accounts of eight depots: refusals, counts, figures, bookings and joins.
+#![tactic(auto)]
+
 pub mod account;
 pub mod booking;
 mod counts;

@@ -1,4 +1,6 @@
 // One depot's books over any store: tills, drafts, slips and every call.
+#![tactic(auto)]
+
 pub mod depot;
 pub mod kept;
 pub mod laws;

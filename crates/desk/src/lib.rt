@@ -1,4 +1,6 @@
 // Three depots at one desk: lines in, answers out.
+#![tactic(auto)]
+
 pub mod desk;
 pub mod place;
 pub mod pocket;

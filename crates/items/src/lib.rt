@@ -1,4 +1,6 @@
 // What travels between depots and what a journal keeps: account items, remarks and parcels.
+#![tactic(auto)]
+
 pub mod item;
 pub mod laws;
 pub mod parcel;

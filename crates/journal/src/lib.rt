@@ -1,4 +1,6 @@
 // A store in lent bytes: accounts written one after another.
+#![tactic(auto)]
+
 mod entry;
 pub mod journal;
 pub mod laws;

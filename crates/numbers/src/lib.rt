@@ -1,3 +1,5 @@
 // Numbers in groups of seven bits.
+#![tactic(auto)]
+
 pub mod laws;
 pub mod number;

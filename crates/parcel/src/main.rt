@@ -1,4 +1,6 @@
 // Reads a parcel from standard input and prints what is in it.
+#![tactic(auto)]
+
 mod figures;
 mod line;
 mod show;

@@ -1,4 +1,6 @@
 // Reads lines from standard input and prints an answer to each.
+#![tactic(auto)]
+
 use desk::desk::Desk;
 use std::io;
 use std::io::{Read, Write};

@@ -1,3 +1,5 @@
 // A store in lent memory.
+#![tactic(auto)]
+
 pub mod slot;
 pub mod table;

@@ -1,4 +1,6 @@
 // Examples, run: memory as a table finds it, windows over windows, and the words of a refusal.
+#![tactic(auto)]
+
 #[cfg(test)]
 mod tests {
     use account::account::Account;

@@ -4,5 +4,5 @@ use Rattle.account.specs.declared.tally.Tally.{Tally}
 use Rattle.account.proofs.Fresh.{fresh-lawful}
 use Rattle.account.proofs.account.Account.blank.Goals as goal
 
-pub invariant-of-result : goal.invariant-of-result
-invariant-of-result c = (subst (λ (v : Tally). lawful v ≡ true) (sym c.zeros-tally.ensures) (fresh-lawful 0 (omega arith)), tt)
+pub invariant_of-result : goal.invariant_of-result
+invariant_of-result c = record { law = subst (λ (v : Tally). lawful v ≡ true) (sym c.zeros-tally.ensures) (fresh-lawful 0 (omega arith)) }

@@ -4,8 +4,8 @@ use Rattle.account.proofs.Balance.{law_covered, less}
 use Rattle.account.proofs.Limits.{covered-here}
 use Rattle.account.proofs.account.Account.free.Goals as goal
 
-pub overflow-sub-result : goal.overflow-sub-result
-overflow-sub-result c =
+pub overflow_sub-result : goal.overflow_sub-result
+overflow_sub-result c =
     let a = c.args.self.now in
     let d = c.args.depot in
     omega (arith, covered-here (counter_of a.tally) (law_covered a.tally a.law) d.number d.least d.most, c.had.ensures.sum, c.gave.ensures.sum)

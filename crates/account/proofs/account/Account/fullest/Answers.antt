@@ -1,4 +1,4 @@
-use Rattle.std.proofs.Common.{◌≡◌, ℕ, sym, refl, ap, ◌∙◌, ap₂, arith, rules}
+use Rattle.std.proofs.Common.{◌≡◌, ℕ, refl, ap, ◌∙◌, arith, rules}
 use Rattle.account.specs.Advice.{best_of}
 use Rattle.account.proofs.Advising.{best_more, advice_names_the_fullest}
 use Rattle.account.proofs.account.Account.fullest.Goals as goal

@@ -4,15 +4,15 @@ use Rattle.account.proofs.Balance.{law_shaped, law_ranged, law_covered}
 use Rattle.account.proofs.Moves.{kept_by}
 use Rattle.account.proofs.account.Account.issued.Goals as goal
 
-pub overflow-add-issued-by : goal.overflow-add-issued-by
-overflow-add-issued-by c =
+pub overflow_add-issued_by : goal.overflow_add-issued_by
+overflow_add-issued_by c =
     let a = c.args.self.now in
     let d = c.args.depot in
     let k = kept_by (counter_of a.tally) (law_ranged a.tally a.law) (law_covered a.tally a.law) in
     let small : c.issued_by.result ≤ limit = omega (arith, c.issued_by.ensures, k.issues d.number d.least d.most) in
     search rules
 
-pub with-issued-requires : goal.with-issued-requires
-with-issued-requires c =
+pub with_issued-requires : goal.with_issued-requires
+with_issued-requires c =
     let a = c.args.self.now in
     record { room = omega (arith, c.issued_by.ensures); shape = law_shaped a.tally a.law }

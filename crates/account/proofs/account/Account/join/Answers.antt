@@ -1,4 +1,4 @@
-use Rattle.std.proofs.Common.{◌≡◌, Bool, true, false, Ok, sym, ap, ◌∙◌, subst, arith}
+use Rattle.std.proofs.Common.{◌≡◌, true, Ok, sym, ap, ◌∙◌, subst, arith}
 use Rattle.account.specs.Lawful.{covered, lawful}
 use Rattle.account.specs.Tallies.{counter_of}
 use Rattle.account.specs.declared.tally.Tally.{Tally}
@@ -9,12 +9,12 @@ pub returns-then-not-covered : goal.returns-then-not-covered
 returns-then-not-covered c =
     join_refused c.args.self.now.tally c.args.other.now.tally (omega arith) (c.if-not-covered.ensures ∙ ap (λ (v : Tally). covered (counter_of v)) c.joined-tally.ensures)
 
-pub invariant-of-result : goal.invariant-of-result
-invariant-of-result c =
+pub invariant_of-result : goal.invariant_of-result
+invariant_of-result c =
     let a = c.args.self.now in
     let b = c.args.other.now in
     let covers = c.if-not-covered.ensures ∙ ap (λ (v : Tally). covered (counter_of v)) c.joined-tally.ensures in
-    (subst (λ (v : Tally). lawful v ≡ true) (sym c.joined-tally.ensures) (join_lawful a.tally b.tally a.law b.law covers), tt)
+    record { law = subst (λ (v : Tally). lawful v ≡ true) (sym c.joined-tally.ensures) (join_lawful a.tally b.tally a.law b.law covers) }
 
 pub returns : goal.returns
 returns c =

@@ -1,4 +1,4 @@
-use Rattle.std.proofs.Common.{◌≡◌, ℕ, ◌<◌, ◌≤◌, true, length, get_or}
+use Rattle.std.proofs.Common.{◌≡◌, ℕ, ◌<◌, true, length, get_or}
 use Rattle.account.specs.Lawful.{within}
 use Rattle.account.specs.Tallies.{count, no_row}
 use Rattle.account.proofs.tally.Tally.ranged.Given as goal

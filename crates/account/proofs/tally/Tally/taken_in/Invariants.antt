@@ -1,4 +1,3 @@
-use Rattle.std.proofs.Common.{◌+◌}
 use Rattle.account.specs.Tallies.{handed}
 use Rattle.account.proofs.Totals.{Summing}
 use Rattle.account.proofs.tally.Tally.taken_in.Given as goal

@@ -57,8 +57,8 @@ fn lacking(deed: Deed) -> Answer
 impl<S: Store> Place<S> {
     // Does what a line asks for at this depot, and answers it.
     pub fn serve(&mut self, deed: Deed) -> Answer
-        ensures answer { result ≡ deed_answer (place (view self.old.depot.inner (meaning self.old.depot.store)) self.old.pocket) deed }
-        ensures after { Served (place (view self.old.depot.inner (meaning self.old.depot.store)) self.old.pocket) deed (place (view self.new.depot.inner (meaning self.new.depot.store)) self.new.pocket) }
+        ensures answer { result ≡ deed_answer (place (view self.old.depot.inner (S.meaning self.old.depot.store)) self.old.pocket) deed }
+        ensures after { Served (place (view self.old.depot.inner (S.meaning self.old.depot.store)) self.old.pocket) deed (place (view self.new.depot.inner (S.meaning self.new.depot.store)) self.new.pocket) }
     {
         match self.pocket.compose(deed) {
             Some(call) => {
@@ -71,7 +71,7 @@ impl<S: Store> Place<S> {
 
     // The answer to a line that makes no call.
     fn read(&self, deed: Deed) -> Answer
-        ensures { result ≡ read_answer (view self.now.depot.inner (meaning self.now.depot.store)) deed }
+        ensures { result ≡ read_answer (view self.now.depot.inner (S.meaning self.now.depot.store)) deed }
     {
         match deed {
             Deed::Stock { part } => told(self.depot.stock(narrow(part))),

@@ -10,8 +10,8 @@ use store::store::Store;
 
 // Makes the call, and hands on what the depot answers.
 pub fn play<S: Store>(depot: &mut Depot<S>, call: Call) -> Reply
-    ensures answer { result ≡ reply_to (view depot.old.inner (meaning depot.old.store)) call }
-    ensures after { Does (view depot.old.inner (meaning depot.old.store)) call (view depot.new.inner (meaning depot.new.store)) }
+    ensures answer { result ≡ reply_to (view depot.old.inner (S.meaning depot.old.store)) call }
+    ensures after { Does (view depot.old.inner (S.meaning depot.old.store)) call (view depot.new.inner (S.meaning depot.new.store)) }
 {
     match call {
         Call::Create { part, reserve } => Reply::Created(depot.create(part, reserve)),

@@ -31,7 +31,7 @@ impl<S: Store> Window<S> {
 
     // The greatest part.
     fn last(&self) -> u32
-        ensures { result ≡ last_seen (meaning self.now.below) self.now.offset self.now.width }
+        ensures { result ≡ last_seen (S.meaning self.now.below) self.now.offset self.now.width }
     {
         self.below
             .greatest()

@@ -16,7 +16,7 @@ use store::store::Store;
 impl<S: Store> Depot<S> {
     // A depot over a store, which may have records already. Its tills are idle.
     pub fn new(number: DepotNumber, store: S) -> Depot<S>
-        ensures { view result.inner (meaning result.store) ≡ fresh_view number.number (meaning store) }
+        ensures { view result.inner (S.meaning result.store) ≡ fresh_view number.number (S.meaning store) }
     {
         let tills = [Till::Idle; 4];
         Depot {
@@ -31,7 +31,7 @@ impl<S: Store> Depot<S> {
 
     // The record of a part.
     pub(crate) fn kept(&self, part: u32) -> Option<Kept>
-        ensures { result ≡ kept_in ((meaning self.now.store).records part) }
+        ensures { result ≡ kept_in ((S.meaning self.now.store).records part) }
     {
         let mut account = Account::blank();
         let version = self.store.look_up(part, &mut account)?;
@@ -40,7 +40,7 @@ impl<S: Store> Depot<S> {
 
     // Puts a fresh account as version 1 and answers 1.
     pub fn create(&mut self, part: u32, reserve: u32) -> Result<u32, Refusal>
-        ensures { Created (view self.old.inner (meaning self.old.store)) part reserve result (view self.new.inner (meaning self.new.store)) }
+        ensures { Created (view self.old.inner (S.meaning self.old.store)) part reserve result (view self.new.inner (S.meaning self.new.store)) }
     {
         if part < 1 || part > self.store.greatest() || reserve > LIMIT {
             return Err(Refusal::OutOfRange);
@@ -55,7 +55,7 @@ impl<S: Store> Depot<S> {
 
     // The stock of a part.
     pub fn stock(&self, part: u32) -> Result<u64, Refusal>
-        ensures { result ≡ stock_answer (view self.now.inner (meaning self.now.store)) part }
+        ensures { result ≡ stock_answer (view self.now.inner (S.meaning self.now.store)) part }
     {
         if part < 1 || part > self.store.greatest() {
             return Err(Refusal::OutOfRange);
@@ -68,7 +68,7 @@ impl<S: Store> Depot<S> {
 
     // What this depot may issue of a part.
     pub fn own_free(&self, part: u32) -> Result<u64, Refusal>
-        ensures { result ≡ own_free_answer (view self.now.inner (meaning self.now.store)) part }
+        ensures { result ≡ own_free_answer (view self.now.inner (S.meaning self.now.store)) part }
     {
         if part < 1 || part > self.store.greatest() {
             return Err(Refusal::OutOfRange);
@@ -81,7 +81,7 @@ impl<S: Store> Depot<S> {
 
     // Whom to call for an amount of a part: the other depot with most free stock, if one has enough.
     pub fn advise(&self, part: u32, amount: u32) -> Result<Option<DepotNumber>, Refusal>
-        ensures { named_in result ≡ advise_answer (view self.now.inner (meaning self.now.store)) part amount }
+        ensures { named_in result ≡ advise_answer (view self.now.inner (S.meaning self.now.store)) part amount }
     {
         if part < 1 || part > self.store.greatest() || amount < 1 || amount > LIMIT {
             return Err(Refusal::OutOfRange);

@@ -43,7 +43,7 @@ impl Inner {
 impl<S: Store> Depot<S> {
     // Copies a part's account and version into a till, and gives the slip for it.
     pub fn open(&mut self, till: u32, part: u32) -> Result<Slip, Refusal>
-        ensures { Opened (view self.old.inner (meaning self.old.store)) till part result (view self.new.inner (meaning self.new.store)) }
+        ensures { Opened (view self.old.inner (S.meaning self.old.store)) till part result (view self.new.inner (S.meaning self.new.store)) }
     {
         if till < 1 || till > TILLS || part < 1 || part > self.store.greatest() {
             return Err(Refusal::OutOfRange);
@@ -75,28 +75,28 @@ impl<S: Store> Depot<S> {
 
     // Takes goods in. Answers the own free stock in the draft, as issuing and handing over do.
     pub fn take_in(&mut self, slip: &Slip, amount: u32) -> Result<u64, Refusal>
-        ensures { Booked (view self.old.inner (meaning self.old.store)) slip.now (TakeIn amount) result (view self.new.inner (meaning self.new.store)) }
+        ensures { Booked (view self.old.inner (S.meaning self.old.store)) slip.now (TakeIn amount) result (view self.new.inner (S.meaning self.new.store)) }
     {
         self.book(slip, Booking::TakeIn { amount })
     }
 
     // Issues goods from the own free stock.
     pub fn issue(&mut self, slip: &Slip, amount: u32) -> Result<u64, Refusal>
-        ensures { Booked (view self.old.inner (meaning self.old.store)) slip.now (Issue amount) result (view self.new.inner (meaning self.new.store)) }
+        ensures { Booked (view self.old.inner (S.meaning self.old.store)) slip.now (Issue amount) result (view self.new.inner (S.meaning self.new.store)) }
     {
         self.book(slip, Booking::Issue { amount })
     }
 
     // Hands own free stock over to another depot.
     pub fn hand_over(&mut self, slip: &Slip, amount: u32, to: u32) -> Result<u64, Refusal>
-        ensures { Booked (view self.old.inner (meaning self.old.store)) slip.now (HandOver amount to) result (view self.new.inner (meaning self.new.store)) }
+        ensures { Booked (view self.old.inner (S.meaning self.old.store)) slip.now (HandOver amount to) result (view self.new.inner (S.meaning self.new.store)) }
     {
         self.book(slip, Booking::HandOver { amount, to })
     }
 
     // Books on the slip's draft.
     fn book(&mut self, slip: &Slip, entry: Booking) -> Result<u64, Refusal>
-        ensures { Booked (view self.old.inner (meaning self.old.store)) slip.now entry result (view self.new.inner (meaning self.new.store)) }
+        ensures { Booked (view self.old.inner (S.meaning self.old.store)) slip.now entry result (view self.new.inner (S.meaning self.new.store)) }
     {
         if !entry.is_in_range() {
             return Err(Refusal::OutOfRange);
@@ -110,7 +110,7 @@ impl<S: Store> Depot<S> {
 
     // Puts the draft's account as the next version, answers that version and gives the slip up.
     pub fn file(&mut self, slip: Slip) -> Result<u32, Declined>
-        ensures { Filed (view self.old.inner (meaning self.old.store)) slip result (view self.new.inner (meaning self.new.store)) }
+        ensures { Filed (view self.old.inner (S.meaning self.old.store)) slip result (view self.new.inner (S.meaning self.new.store)) }
     {
         let Some(draft) = self.inner.draft(&slip) else {
             return Err(Declined {
@@ -130,8 +130,8 @@ impl<S: Store> Depot<S> {
 
     // Puts a draft's account as the next version, if the stored one is still the draft's.
     fn put(&mut self, draft: &Draft) -> Result<u32, Refusal>
-        ensures answer { result ≡ put_draft_answer (meaning self.old.store) draft.now }
-        ensures after { Stored (meaning self.old.store) (by_answer (put_draft_answer (meaning self.old.store) draft.now) (draft_put (Some draft.now)) None) (meaning self.new.store) }
+        ensures answer { result ≡ put_draft_answer (S.meaning self.old.store) draft.now }
+        ensures after { Stored (S.meaning self.old.store) (by_answer (put_draft_answer (S.meaning self.old.store) draft.now) (draft_put (Some draft.now)) None) (S.meaning self.new.store) }
         ensures stays { self.new.inner ≡ self.old.inner }
     {
         if draft.version >= LIMIT {
@@ -152,7 +152,7 @@ impl<S: Store> Depot<S> {
 
     // Gives the slip up, idles its till and answers 0.
     pub fn drop_draft(&mut self, slip: Slip) -> Result<u32, Declined>
-        ensures { Dropped (view self.old.inner (meaning self.old.store)) slip result (view self.new.inner (meaning self.new.store)) }
+        ensures { Dropped (view self.old.inner (S.meaning self.old.store)) slip result (view self.new.inner (S.meaning self.new.store)) }
     {
         if self.inner.draft(&slip).is_none() {
             return Err(Declined {
@@ -166,7 +166,7 @@ impl<S: Store> Depot<S> {
 
     // Idles all tills and answers how many drafts are lost.
     pub fn restart(&mut self) -> u32
-        ensures { Restarted (view self.old.inner (meaning self.old.store)) result (view self.new.inner (meaning self.new.store)) }
+        ensures { Restarted (view self.old.inner (S.meaning self.old.store)) result (view self.new.inner (S.meaning self.new.store)) }
     {
         let lost = self.inner.drafts();
         self.inner.tills = [Till::Idle; 4];

@@ -1,5 +1,5 @@
 -- A booking on a slip's draft.
-use Rattle.std.proofs.Common.{◌≡◌, ℕ, ◌-◌, Bool, true, false, cond, eqb, List, [], ◌∷◌, get_or, set, nat_abs, is_some, Some, None, Ok, Err, Option, Result, sym, refl, ap, ◌∙◌, subst, ap₂, arith}
+use Rattle.std.proofs.Common.{◌≡◌, ℕ, ◌-◌, Bool, true, false, cond, List, [], ◌∷◌, set, nat_abs, is_some, Some, None, Ok, Err, Option, Result, sym, refl, ap, ◌∙◌, subst, ap₂, arith}
 use lib.Seq.{set-get_or}
 use Rattle.std.proofs.lemmas.Bool.{both_ways}
 use Rattle.account.specs.Bookings.{range_check, booking_checks, booking, booked, free_told, account_after}
@@ -9,11 +9,9 @@ use Rattle.account.specs.declared.booking.Booking.{Booking}
 use Rattle.account.specs.declared.refusal.Refusal.{Refusal}
 use Rattle.account.specs.declared.refusal.Refusal.TheVariants.{NoDraft}
 use Rattle.account.specs.declared.tally.Tally.{Tally}
-use Rattle.store.specs.Meaning.{Meaning}
-use Rattle.depot.specs.Drafts.{book_checks, book_answer, booked_till, free_after, Booked}
+use Rattle.depot.specs.Drafts.{book_answer, booked_till, free_after, Booked}
 use Rattle.depot.specs.Tills.{draft_in, till_answer, till_after, with_account}
-use Rattle.depot.specs.Views.{View, view, till_ok, till_of, with_till, draft_at, draft_of, by_answer}
-use Rattle.depot.specs.declared.depot.Inner.{Inner}
+use Rattle.depot.specs.Views.{View, till_of, with_till, draft_at, draft_of, by_answer}
 use Rattle.depot.specs.declared.slip.Slip.{Slip}
 use Rattle.depot.specs.declared.till.Draft.{Draft}
 use Rattle.depot.specs.declared.till.Till.{Till}

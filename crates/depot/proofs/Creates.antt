@@ -1,5 +1,5 @@
 -- An accepted creating.
-use Rattle.std.proofs.Common.{◌≡◌, ℕ, ◌≤◌, Bool, true, false, not, ◌&&◌, ltb, leb, [], ◌∷◌, is_some, Some, None, Ok, Err, Option, Result, sym, refl, ap, ◌∙◌, subst, ap₂}
+use Rattle.std.proofs.Common.{◌≡◌, ℕ, ◌≤◌, true, false, ltb, leb, [], ◌∷◌, is_some, Some, None, Ok, Option, Result, sym, refl, ap, ◌∙◌, subst, ap₂}
 use Rattle.std.proofs.lemmas.Bool.{and_from, not_from_true, le-leb}
 use Rattle.std.specs.Option.{option_map}
 use Rattle.account.specs.Accounts.{checked, fresh, fresh_answer}

@@ -1,7 +1,6 @@
 -- The put of a filing is refused by the store, or taken, and never out of range.
-use Rattle.std.proofs.Common.{◌≡◌, ℕ, ◌+◌, ◌<◌, ◌≤◌, Bool, true, false, cond, not, ◌&&◌, eqb, ltb, leb, [], ◌∷◌, Some, None, Ok, Err, Option, Result, sym, refl, ap, ◌∙◌, ⊎_elim, arith}
-use Rattle.std.proofs.lemmas.Bool.{and_from, cases_Bool, both_ways, le-leb, le-ltb, cond-false, not_from_true, eq-eqb}
-use Rattle.account.specs.Refusals.{unless, refuse}
+use Rattle.std.proofs.Common.{◌≡◌, ℕ, ◌+◌, ◌<◌, Bool, true, false, cond, not, ◌&&◌, ltb, leb, Some, None, Ok, Err, Option, Result, sym, refl, ap, ◌∙◌, ⊎_elim, arith}
+use Rattle.std.proofs.lemmas.Bool.{and_from, cases_Bool, le-leb, le-ltb, cond-false, not_from_true, eq-eqb}
 use Rattle.account.specs.Tallies.{limit}
 use Rattle.account.specs.declared.refusal.Refusal.{Refusal}
 use Rattle.account.specs.declared.refusal.Refusal.TheVariants.{StoreRefused}

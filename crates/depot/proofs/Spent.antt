@@ -1,18 +1,16 @@
 -- A slip that names no draft, with a serial that was given, never names one again.
-use Rattle.std.proofs.Common.{◌≡◌, ℕ, zero, suc, ◌+◌, ◌-◌, ◌≤◌, Bool, true, false, cond, ◌&&◌, eqb, ◌≢◌, ◌⊎◌, List, [], ◌∷◌, get_or, set, replicate, Some, None, Ok, Err, Option, Result, sym, refl, ap, ◌∙◌, subst, ap₂, inl, inr, ⊎_elim, arith}
+use Rattle.std.proofs.Common.{◌≡◌, ℕ, zero, suc, ◌+◌, ◌-◌, ◌≤◌, Bool, true, false, cond, ◌&&◌, eqb, ◌≢◌, List, [], ◌∷◌, get_or, set, replicate, Some, None, Ok, Err, Option, Result, sym, refl, ap, ◌∙◌, subst, ap₂, ⊎_elim, arith}
 use Rattle.std.proofs.lemmas.List.{get_or-set_other}
-use Rattle.std.proofs.lemmas.Bool.{cases_eq, cases_Bool, cond-true, cond-false, ne_eqb, and_left}
+use Rattle.std.proofs.lemmas.Bool.{cases_eq, cond-false, ne_eqb, and_left}
 use Rattle.account.specs.declared.account.Account.{Account}
 use Rattle.account.specs.declared.booking.Booking.{Booking}
 use Rattle.account.specs.declared.refusal.Refusal.{Refusal}
 use Rattle.account.proofs.Accepted.{passed}
 use Rattle.store.specs.Meaning.{Record}
-use Rattle.depot.specs.Accounts.{create_put}
-use Rattle.depot.specs.Drafts.{open_checks, open_answer, opened_till, version_of, book_answer, booked_till, idled, Opened, Booked, Filed, Dropped}
+use Rattle.depot.specs.Drafts.{open_checks, opened_till, booked_till, idled, Filed, Dropped}
 use Rattle.depot.specs.Laws.{Leads, here, creating, opening, booking, filing, dropping, restarting, Given, OpenedSlipIsGiven, SpentSlipNamesNoDraft}
 use Rattle.depot.specs.Tills.{draft_in, with_account}
 use Rattle.depot.specs.Views.{View, till_ok, till_of, with_till, draft_at, draft_of, Leaves, Put, by_answer}
-use Rattle.depot.specs.declared.slip.Declined.{Declined}
 use Rattle.depot.specs.declared.slip.Slip.{Slip}
 use Rattle.depot.specs.declared.till.Draft.{Draft}
 use Rattle.depot.specs.declared.till.Till.{Till}

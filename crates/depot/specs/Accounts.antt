@@ -1,5 +1,5 @@
 -- Creating an account, and reading the stored ones.
-use Rattle.std.specs.Prelude.{◌≡◌, ℕ, Bool, not, ◌&&◌, List, [], ◌∷◌, is_some, Some, None, Ok, Err, Option, Result, nat_le}
+use Rattle.std.specs.Prelude.{◌≡◌, ℕ, not, ◌&&◌, List, [], ◌∷◌, is_some, Some, None, Ok, Err, Option, Result, nat_le}
 use Rattle.std.specs.Option.{option_map}
 use Rattle.account.specs.Accounts.{checked, fresh, free_of, stock_of}
 use Rattle.account.specs.Advice.{best_of, number_if}

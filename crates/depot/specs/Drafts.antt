@@ -3,7 +3,6 @@ use Rattle.std.specs.Prelude.{◌≡◌, ℕ, ◌+◌, Bool, false, not, ◌&&�
 use Rattle.account.specs.Bookings.{limit_check, range_check, booking_checks, booked, booking, account_after}
 use Rattle.account.specs.Refusals.{Check, refuse, given, unless}
 use Rattle.account.specs.Tallies.{free, counter_of, tally_of}
-use Rattle.account.specs.declared.account.Account.{Account}
 use Rattle.account.specs.declared.booking.Booking.{Booking}
 use Rattle.account.specs.declared.refusal.Refusal.{Refusal}
 use Rattle.account.specs.declared.refusal.Refusal.TheVariants.{OutOfRange, NoAccount, TillTaken, NoDraft, VersionMoved, StoreRefused}

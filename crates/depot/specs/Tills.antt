@@ -1,5 +1,5 @@
 -- Tills, drafts and slips.
-use Rattle.std.specs.Prelude.{ℕ, ◌+◌, Bool, true, false, cond, ◌&&◌, List, [], ◌∷◌, Some, None, Ok, Err, Option, Result, ◌==◌}
+use Rattle.std.specs.Prelude.{ℕ, ◌+◌, Bool, true, false, cond, ◌&&◌, List, [], ◌∷◌, Some, None, Err, Option, Result, ◌==◌}
 use Rattle.account.specs.Bookings.{booking, free_told, account_after}
 use Rattle.account.specs.declared.account.Account.{Account}
 use Rattle.account.specs.declared.booking.Booking.{Booking}

@@ -1,4 +1,4 @@
 use Rattle.grammar.proofs.answer.+append_decimal.Given as goal
 
-abbrev pub decreases-append-decimal : goal.decreases-append-decimal
-decreases-append-decimal l = l.n
+abbrev pub decreases-append_decimal : goal.decreases-append_decimal
+decreases-append_decimal l = l.n

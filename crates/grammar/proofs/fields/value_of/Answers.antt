@@ -6,20 +6,20 @@ use Rattle.grammar.proofs.fields.value_of.Goals as goal
 pub loop-b-init : goal.loop-b-init
 loop-b-init c = record { is = refl; all = tt }
 
-pub overflow-mul-n : goal.overflow-mul-n
-overflow-mul-n c = omega (arith, sofar_small _ _ _ c.loop-b.invariant (omega arith))
+pub overflow_mul-n : goal.overflow_mul-n
+overflow_mul-n c = omega (arith, sofar_small _ _ _ c.loop-b.invariant (omega arith))
 
 -- the next byte is a digit, and its value
-next : (c : goal.In-ok-n) → IsInRange 48 57 (get_or c.args.digits.now c.loop-b.b-index 0) × (c.in-ok-n.field-0 ≡ get_or c.args.digits.now c.loop-b.b-index 0 - 48)
-next c = digit_some _ _ c.in-ok-n.ensures
+next : (c : goal.In_ok-n) → IsInRange 48 57 (get_or c.args.digits.now c.loop-b.b-index 0) × (c.in_ok-n.field-0 ≡ get_or c.args.digits.now c.loop-b.b-index 0 - 48)
+next c = digit_some _ _ c.in_ok-n.ensures
 
-pub overflow-add-n : goal.overflow-add-n
-overflow-add-n c = let d = next c in omega (arith, sofar_small _ _ _ c.loop-b.invariant (omega arith))
+pub overflow_add-n : goal.overflow_add-n
+overflow_add-n c = let d = next c in omega (arith, sofar_small _ _ _ c.loop-b.invariant (omega arith))
 
-pub returns-in-err-n : goal.returns-in-err-n
-returns-in-err-n c =
-    c.from-residual.ensures
-    ∙ sym (value_none c.args.digits.now c.loop-b.b-index c.loop-b-test.true (digit_none _ c.in-err-n.ensures))
+pub returns-in_err-n : goal.returns-in_err-n
+returns-in_err-n c =
+    c.from_residual.ensures
+    ∙ sym (value_none c.args.digits.now c.loop-b.b-index c.loop-b-test.true (digit_none _ c.in_err-n.ensures))
 
 pub loop-b-preserved : goal.loop-b-preserved
 loop-b-preserved c =

@@ -6,28 +6,28 @@ use Rattle.numbers.proofs.number.front_number.Goals as goal
 pub loop-i-init : goal.loop-i-init
 loop-i-init c = reads_none c.args.bytes.now
 
-pub overflow-mul-value : goal.overflow-mul-value
-overflow-mul-value c =
+pub overflow_mul-value : goal.overflow_mul-value
+overflow_mul-value c =
     let h : c.loop-i.weight ≤ 268435456 = reads_bound _ _ _ _ c.loop-i.invariant in
     let m : get_or c.args.bytes.now c.loop-i.i 0 % 128 * c.loop-i.weight ≤ 127 * c.loop-i.weight = mul-le-mul_right _ (omega arith) in
     omega arith
 
-pub overflow-add-value : goal.overflow-add-value
-overflow-add-value c =
+pub overflow_add-value : goal.overflow_add-value
+overflow_add-value c =
     let h : c.loop-i.weight ≤ 268435456 = reads_bound _ _ _ _ c.loop-i.invariant in
     let m : get_or c.args.bytes.now c.loop-i.i 0 % 128 * c.loop-i.weight ≤ 127 * c.loop-i.weight = mul-le-mul_right _ (omega arith) in
     omega (arith, c.loop-i.invariant.3)
 
-pub overflow-mul-weight : goal.overflow-mul-weight
-overflow-mul-weight c =
+pub overflow_mul-weight : goal.overflow_mul-weight
+overflow_mul-weight c =
     let h : c.loop-i.weight ≤ 268435456 = reads_bound _ _ _ _ c.loop-i.invariant in omega arith
 
 pub loop-i-preserved : goal.loop-i-preserved
-loop-i-preserved c = reads_more _ _ _ _ c.loop-i-test.true c.loop-i.invariant c.if-i-eq-LAST-GROUP.false c.if-b-lt128.false
+loop-i-preserved c = reads_more _ _ _ _ c.loop-i-test.true c.loop-i.invariant c.if-i-eq-LAST_GROUP.false c.if-b-lt128.false
 
-pub returns-then-i-gt-FIRST-GROUP : goal.returns-then-i-gt-FIRST-GROUP
+pub returns-then-i-gt-FIRST_GROUP : goal.returns-then-i-gt-FIRST_GROUP
 unfolding front_number
-returns-then-i-gt-FIRST-GROUP c =
+returns-then-i-gt-FIRST_GROUP c =
     sym
     (ap (in_range 1000000000) (reads_last _ _ _ _ c.loop-i-test.true c.loop-i.invariant c.if-b-lt128.true)
     ∙ last_longer _ _ _ _ c.if-b-lt128.true c.if-b-eq0.true (omega arith)
@@ -54,10 +54,10 @@ returns-then-b-lt128 c =
     ∙ last_good _ _ _ _ c.if-b-lt128.true (shortest c.else-b-eq0.either) c.if-value-gt-LARGEST.false
     )
 
-pub returns-then-i-eq-LAST-GROUP : goal.returns-then-i-eq-LAST-GROUP
+pub returns-then-i-eq-LAST_GROUP : goal.returns-then-i-eq-LAST_GROUP
 unfolding front_number
-returns-then-i-eq-LAST-GROUP c =
-    sym (ap (in_range 1000000000) (reads_full _ _ _ _ c.loop-i-test.true c.loop-i.invariant c.if-i-eq-LAST-GROUP.true c.if-b-lt128.false))
+returns-then-i-eq-LAST_GROUP c =
+    sym (ap (in_range 1000000000) (reads_full _ _ _ _ c.loop-i-test.true c.loop-i.invariant c.if-i-eq-LAST_GROUP.true c.if-b-lt128.false))
 
 pub returns : goal.returns
 unfolding front_number

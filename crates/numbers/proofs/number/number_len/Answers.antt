@@ -18,6 +18,6 @@ pub returns-in-2097152-to-268435455 : goal.returns-in-2097152-to-268435455
 unfolding number_bytes
 returns-in-2097152-to-268435455 c = search rules
 
-pub returns-in-default : goal.returns-in-default
+pub returns-in_default : goal.returns-in_default
 unfolding number_bytes
-returns-in-default c = search rules
+returns-in_default c = search rules

@@ -4,8 +4,8 @@ use Rattle.numbers.specs.Numbers.{placed, front_number}
 use Rattle.numbers.proofs.Numbers.{number-used}
 use Rattle.numbers.proofs.number.read_number.Goals as goal
 
-pub overflow-add-result : goal.overflow-add-result
-overflow-add-result c =
+pub overflow_add-result : goal.overflow_add-result
+overflow_add-result c =
     let used = number-used c.tail.result.now (c.in-Ok.n, c.in-Ok.used) (sym c.in-Ok.ensures) in
     omega (arith, used, ap length c.tail.ensures, length-drop c.args.place c.args.bytes.now)
 

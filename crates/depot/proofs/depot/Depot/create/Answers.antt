@@ -10,5 +10,5 @@ returns g c =
     let m = g.S.Store.meaning d.store in
     let p = c.args.part in
     let ranged : part_ok m p ≡ true = and_from (leb 1 p) (leb p m.greatest) (le-leb 1 p (omega arith)) (le-leb p m.greatest (omega (arith, c.greatest.ensures))) in
-    let new : is_some (m.records p) ≡ false = sym (some_kept (m.records p)) ∙ ap is_some (sym c.kept.ensures) ∙ sym c.if-is-some.ensures in
-    created d.inner m _ p c.args.reserve c.in-ok-account.account ranged (omega arith) new c.in-ok-put.ensures.answer (fresh_is c.args.reserve _ c.in-ok-account.ensures) c.in-ok-put.ensures.after
+    let new : is_some (m.records p) ≡ false = sym (some_kept (m.records p)) ∙ ap is_some (sym c.kept.ensures) ∙ sym c.if-is_some.ensures in
+    created d.inner m _ p c.args.reserve c.in_ok-account.account ranged (omega arith) new c.in_ok-put.ensures.answer (fresh_is c.args.reserve _ c.in_ok-account.ensures) c.in_ok-put.ensures.after

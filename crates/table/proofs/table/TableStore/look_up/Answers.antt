@@ -9,7 +9,7 @@ returns-in-Some c =
 
 pub loop-slot-preserved : goal.loop-slot-preserved
 loop-slot-preserved c =
-    let h = look_here c.args.part _ _ c.loop-slot.invariant.0 _ c.loop-slot-test.true _ c.in-default.ensures in
+    let h = look_here c.args.part _ _ c.loop-slot.invariant.0 _ c.loop-slot-test.true _ c.in_default.ensures in
     search rules
 
 pub returns : goal.returns

@@ -6,14 +6,14 @@ use Rattle.items.proofs.Lengths.{number-most}
 use Rattle.items.proofs.Puts.{length_step}
 use Rattle.items.proofs.write.numbers_len.Goals as goal
 
-pub overflow-add-total : goal.overflow-add-total
-overflow-add-total c = omega (arith, number-most (get_or c.args.numbers.now c.loop-n.n-index 0), c.number-len-total.ensures)
+pub overflow_add-total : goal.overflow_add-total
+overflow_add-total c = omega (arith, number-most (get_or c.args.numbers.now c.loop-n.n-index 0), c.number_len-total.ensures)
 
 pub loop-n-preserved : goal.loop-n-preserved
 loop-n-preserved c =
     let more = length_step number_bytes c.args.numbers.now c.loop-n.n-index 0 c.loop-n-test.true in
     let most = number-most (get_or c.args.numbers.now c.loop-n.n-index 0) in
-    (omega (arith, c.number-len-total.ensures, c.loop-n.invariant.0), omega (arith, c.number-len-total.ensures, c.loop-n.invariant.1))
+    (omega (arith, c.number_len-total.ensures, c.loop-n.invariant.0), omega (arith, c.number_len-total.ensures, c.loop-n.invariant.1))
 
 pub returns : goal.returns
 returns c =

@@ -9,5 +9,5 @@ returns c =
     let used : c.in-Some.used ≡ length (number_bytes c.args.n) = cc in
     record {
       after = ap (λ x. c.args.place + x) used;
-      bytes = lent-put _ _ _ c.requires _ c.write-number.ensures.bytes;
+      bytes = lent-put _ _ _ c.requires _ c.write_number.ensures.bytes;
     }

@@ -9,12 +9,12 @@ use Rattle.items.proofs.write.put_numbers.Goals as goal
 pub loop-n-init : goal.loop-n-init
 loop-n-init c = wrote_none number_bytes _ _ _
 
-pub put-number-next-requires : goal.put-number-next-requires
-put-number-next-requires c = wrote_room number_bytes _ _ _ _ _ _ c.requires c.loop-n.invariant _ c.loop-n-test.true
+pub put_number-next-requires : goal.put_number-next-requires
+put_number-next-requires c = wrote_room number_bytes _ _ _ _ _ _ c.requires c.loop-n.invariant _ c.loop-n-test.true
 
 pub loop-n-preserved : goal.loop-n-preserved
 loop-n-preserved c =
-    wrote_more number_bytes _ _ _ _ _ _ c.requires c.loop-n.invariant _ _ _ c.loop-n-test.true c.put-number-next.ensures.after c.put-number-next.ensures.bytes
+    wrote_more number_bytes _ _ _ _ _ _ c.requires c.loop-n.invariant _ _ _ c.loop-n-test.true c.put_number-next.ensures.after c.put_number-next.ensures.bytes
 
 pub returns : goal.returns
 returns c =

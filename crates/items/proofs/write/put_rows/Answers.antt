@@ -9,12 +9,12 @@ use Rattle.items.proofs.write.put_rows.Goals as goal
 pub loop-row-init : goal.loop-row-init
 loop-row-init c = wrote_none row_bytes _ _ _
 
-pub put-numbers-next-requires : goal.put-numbers-next-requires
-put-numbers-next-requires c = wrote_room row_bytes _ _ _ _ _ _ c.requires c.loop-row.invariant _ c.loop-row-test.true
+pub put_numbers-next-requires : goal.put_numbers-next-requires
+put_numbers-next-requires c = wrote_room row_bytes _ _ _ _ _ _ c.requires c.loop-row.invariant _ c.loop-row-test.true
 
 pub loop-row-preserved : goal.loop-row-preserved
 loop-row-preserved c =
-    wrote_more row_bytes _ _ _ _ _ _ c.requires c.loop-row.invariant _ _ _ c.loop-row-test.true c.put-numbers-next.ensures.after c.put-numbers-next.ensures.bytes
+    wrote_more row_bytes _ _ _ _ _ _ c.requires c.loop-row.invariant _ _ _ c.loop-row-test.true c.put_numbers-next.ensures.after c.put_numbers-next.ensures.bytes
 
 pub returns : goal.returns
 returns c =

@@ -9,7 +9,7 @@ pub loop-i-preserved : goal.loop-i-preserved
 loop-i-preserved c =
     let within : c.loop-i.i < length c.args.rows.now = omega arith in
     let more = length_step row_bytes c.args.rows.now c.loop-i.i (record { counts = [] }) within in
-    (omega (arith, more, c.loop-i.invariant.0, c.numbers-len-total.ensures.sum), omega (arith, c.loop-i.invariant.1, c.numbers-len-total.ensures.most))
+    (omega (arith, more, c.loop-i.invariant.0, c.numbers_len-total.ensures.sum), omega (arith, c.loop-i.invariant.1, c.numbers_len-total.ensures.most))
 
 pub returns : goal.returns
 returns c =

@@ -1,5 +1,5 @@
 -- What a line does at one depot: the call that it makes, and the answer that is printed.
-use Rattle.std.specs.Prelude.{ℕ, min, Bool, cond, Some, None, Ok, Err, Option, Result}
+use Rattle.std.specs.Prelude.{ℕ, min, cond, Some, None, Ok, Err, Option, Result}
 use Rattle.std.specs.Option.{option_map, unwrap_or}
 use Rattle.account.specs.Bookings.{in_range}
 use Rattle.account.specs.declared.booking.Booking.{Booking}

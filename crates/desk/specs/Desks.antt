@@ -1,8 +1,7 @@
 -- The three depots of a desk, and what a line does there.
 use Rattle.std.specs.Prelude.{◌≡◌, ℕ, Bool, true, false, cond, List, Some, None, MatchBool, Option, ◌==◌, ◌≢◌}
 use Rattle.account.specs.declared.refusal.Refusal.TheVariants.{OutOfRange, UnknownLine}
-use Rattle.depot.specs.Views.{View, view, fresh_view}
-use Rattle.depot.specs.declared.depot.Depot.{Depot}
+use Rattle.depot.specs.Views.{view, fresh_view}
 use Rattle.grammar.specs.Grammar.{command_of}
 use Rattle.grammar.specs.declared.answer.Answer.{Answer}
 use Rattle.grammar.specs.declared.answer.Answer.TheVariants as print

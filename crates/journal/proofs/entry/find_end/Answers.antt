@@ -14,4 +14,4 @@ pub loop-next-preserved : goal.loop-next-preserved
 loop-next-preserved c = walked_more _ _ _ (all_bytes _ c.type-inv.bytes) (sym c.in-Ok.ensures) c.loop-next.invariant
 
 pub returns : goal.returns
-returns c = walked_all _ _ _ (all_bytes _ c.type-inv.bytes) (sym c.in-default.ensures) c.loop-next.invariant
+returns c = walked_all _ _ _ (all_bytes _ c.type-inv.bytes) (sym c.in_default.ensures) c.loop-next.invariant

@@ -10,7 +10,7 @@ loop-place-init c = passed_none _ _ (all_bytes _ c.type-inv.bytes)
 pub unreachable-requires : goal.unreachable-requires
 unreachable-requires c =
     let l : c.loop-place.place < (scan c.args.bytes.now).end = omega (arith, c.requires.0, c.loop-place-test.true) in
-    never_fails _ _ _ _ c.loop-place.invariant l c.in-default.field-0 (sym c.in-default.ensures)
+    never_fails _ _ _ _ c.loop-place.invariant l c.in_default.field-0 (sym c.in_default.ensures)
 
 pub loop-place-preserved : goal.loop-place-preserved
 loop-place-preserved c =

@@ -3,5 +3,5 @@ use Rattle.journal.specs.Journals.{Ends, front_of}
 use Rattle.journal.proofs.Statements.{started_ends}
 use Rattle.journal.proofs.journal.Journal.clear.Goals as goal
 
-pub invariant-of-self : goal.invariant-of-self
-invariant-of-self c = (subst (λ (bs : List ℕ). Ends (front_of bs) 0) (sym c.blank.ensures) (started_ends c.args.self.now.bytes.now), tt)
+pub invariant_of-self : goal.invariant_of-self
+invariant_of-self c = (subst (λ (bs : List ℕ). Ends (front_of bs) 0) (sym c.blank.ensures) (started_ends c.args.self.now.bytes.now), tt)

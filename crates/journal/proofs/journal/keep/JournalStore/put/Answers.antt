@@ -5,5 +5,5 @@ use Rattle.journal.proofs.journal.keep.JournalStore.put.Goals as goal
 
 pub returns : goal.returns
 returns c =
-    let taken = and_from _ _ (sym c.if-not-in-range.ensures) (sym c.if-not-has-room.ensures) in
+    let taken = and_from _ _ (sym c.if-not-in_range.ensures) (sym c.if-not-has_room.ensures) in
     record { answer = put_taken _ c.args.part c.args.version taken; after = c.append.ensures.meaning; bytes = c.append.ensures.bytes }

@@ -7,11 +7,11 @@ loop-next-init c = walked_none _
 
 pub loop-next-smaller : goal.loop-next-smaller
 loop-next-smaller c =
-    let after = end_after _ _ _ (all_bytes _ c.type-inv.bytes) (sym c.in-Ok.ensures) in
+    let after = end_after _ _ _ (all_bytes _ c.type_inv.bytes) (sym c.in-Ok.ensures) in
     omega (arith, after.0, after.1)
 
 pub loop-next-preserved : goal.loop-next-preserved
-loop-next-preserved c = walked_more _ _ _ (all_bytes _ c.type-inv.bytes) (sym c.in-Ok.ensures) c.loop-next.invariant
+loop-next-preserved c = walked_more _ _ _ (all_bytes _ c.type_inv.bytes) (sym c.in-Ok.ensures) c.loop-next.invariant
 
 pub returns : goal.returns
-returns c = walked_all _ _ _ (all_bytes _ c.type-inv.bytes) (sym c.in_default.ensures) c.loop-next.invariant
+returns c = walked_all _ _ _ (all_bytes _ c.type_inv.bytes) (sym c.in_default.ensures) c.loop-next.invariant

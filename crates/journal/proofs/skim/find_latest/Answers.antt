@@ -5,7 +5,7 @@ use Rattle.journal.proofs.Scans.{all_bytes}
 use Rattle.journal.proofs.skim.find_latest.Goals as goal
 
 pub loop-place-init : goal.loop-place-init
-loop-place-init c = passed_none _ _ (all_bytes _ c.type-inv.bytes)
+loop-place-init c = passed_none _ _ (all_bytes _ c.type_inv.bytes)
 
 pub unreachable-requires : goal.unreachable-requires
 unreachable-requires c =

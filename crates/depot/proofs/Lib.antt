@@ -3,3 +3,4 @@ pub mod Creates
 pub mod Files
 pub mod Restarts
 pub mod Spent
+pub mod Sends

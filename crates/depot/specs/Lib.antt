@@ -3,4 +3,5 @@ pub mod Views
 pub mod Records
 pub mod Accounts
 pub mod Drafts
+pub mod Sending
 pub mod Laws

@@ -1,9 +1,17 @@
 // The laws of a depot's calls, each the contract of a function that has nothing else to do.
 ghost use Rattle.depot.specs.Laws.{LowestRefusalAnswers, OpenedSlipIsGiven, SpentSlipNamesNoDraft};
+ghost use Rattle.depot.specs.Sending.{LowestSendingRefusalAnswers};
 
 // Each list of refusals ascends by number.
 pub fn lowest_refusal_answers() -> u8
     ensures { LowestRefusalAnswers }
+{
+    0
+}
+
+// The same of sending.
+pub fn lowest_sending_refusal_answers() -> u8
+    ensures { LowestSendingRefusalAnswers }
 {
     0
 }

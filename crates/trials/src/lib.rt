@@ -1,5 +1,10 @@
-// Examples, run: memory as a table finds it, windows over windows, and the words of a refusal.
+// Examples, run: memory as a table finds it, windows over windows, journals of several sizes, items that are refused, and the words of a refusal.
 #![tactic(auto)]
+
+#[cfg(test)]
+mod items;
+#[cfg(test)]
+mod journals;
 
 #[cfg(test)]
 mod tests {
@@ -24,7 +29,7 @@ mod tests {
     }
 
     // The version and the stock of a part; 0 and 0 where it is absent.
-    fn found<S: Store>(store: &S, part: u32) -> (u32, u64) {
+    pub(crate) fn found<S: Store>(store: &S, part: u32) -> (u32, u64) {
         let mut account = Account::blank();
         match store.look_up(part, &mut account) {
             Some(version) => (version, account.stock()),

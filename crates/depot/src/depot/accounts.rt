@@ -1,7 +1,8 @@
-// Making a depot, creating accounts and reading the stored ones.
+// Making a depot, creating accounts, reading and sending the stored ones.
 ghost use Rattle.std.specs.Prelude.{◌≡◌};
 ghost use Rattle.depot.specs.Accounts.{Created, stock_answer, own_free_answer, advise_answer, named_in};
 ghost use Rattle.depot.specs.Records.{kept_in};
+ghost use Rattle.depot.specs.Sending.{send_answer, send_left};
 ghost use Rattle.depot.specs.Views.{view, fresh_view};
 
 use super::{Depot, Inner};
@@ -11,6 +12,7 @@ use account::account::Account;
 use account::depot_number::DepotNumber;
 use account::refusal::Refusal;
 use account::tally::LIMIT;
+use items::write::write_account;
 use store::store::Store;
 
 impl<S: Store> Depot<S> {
@@ -88,6 +90,20 @@ impl<S: Store> Depot<S> {
         }
         match self.kept(part) {
             Some(kept) => Ok(kept.account.fullest(self.inner.number, amount)),
+            None => Err(Refusal::NoAccount),
+        }
+    }
+
+    // Writes the item of a part's stored account into a buffer from a place on and answers the item's length.
+    pub fn send(&self, part: u32, buffer: &mut [u8], place: usize) -> Result<usize, Refusal>
+        ensures answer { result ≡ send_answer (view self.now.inner (S.meaning self.now.store)) part buffer.old place }
+        ensures bytes { buffer.new ≡ send_left (view self.now.inner (S.meaning self.now.store)) part buffer.old place }
+    {
+        if part < 1 || part > self.store.greatest() || place > buffer.len() {
+            return Err(Refusal::OutOfRange);
+        }
+        match self.kept(part) {
+            Some(kept) => write_account(buffer, place, part, &kept.account),
             None => Err(Refusal::NoAccount),
         }
     }

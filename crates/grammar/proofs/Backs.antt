@@ -1,6 +1,6 @@
 -- A command is read back from its printed form.
 use Rattle.std.proofs.Common.{◌≡◌, ℕ, ◌^◌, ◌<◌, true, List, [], ◌∷◌, ◌++◌, map, Some, decimal, Option, sym, refl, ap, ◌∙◌, append_assoc, append-nil, arith}
-use Rattle.std.specs.List.{flat_map, AllByRecursion as All}
+use Rattle.std.specs.List.{flat_map, AllByRecursion}
 use Rattle.std.specs.Str.{all_ascii_digits}
 use Rattle.std.proofs.lemmas.Fmt.{decimal_nonempty, length-decimal-le, digits_decimal, digits_value-decimal}
 use Rattle.std.proofs.lemmas.Str.Parse.{tells_all_ascii_digits}
@@ -63,7 +63,7 @@ word_back Own = refl
 word_back Ask = refl
 
 -- each printed number is a field
-fields_back : (front : List ℕ) (ns : List ℕ) → All Short ns → fields_after front (flat_map (λ f. 32 ∷ f) (map decimal ns)) ≡ front ∷ map decimal ns
+fields_back : (front : List ℕ) (ns : List ℕ) → AllByRecursion Short ns → fields_after front (flat_map (λ f. 32 ∷ f) (map decimal ns)) ≡ front ∷ map decimal ns
 unfolding fields_after
 fields_back front [] h = refl
 fields_back front (n ∷ ns) h =
@@ -73,16 +73,16 @@ then_back : {X : Type 0} (more : ℕ → Option X) (n : ℕ) → Short n → and
 then_back more n h = ap (λ o. and_then o more) (number_back n h)
 
 module _ {X : Type 0} where
-  one_back : (make : ℕ → X) (a : ℕ) → All Short (a ∷ []) → of_one make (map decimal (a ∷ [])) ≡ Some (make a)
+  one_back : (make : ℕ → X) (a : ℕ) → AllByRecursion Short (a ∷ []) → of_one make (map decimal (a ∷ [])) ≡ Some (make a)
   one_back make a h = then_back _ a h.0
 
-  two_back : (make : ℕ → ℕ → X) (a b : ℕ) → All Short (a ∷ b ∷ []) → of_two make (map decimal (a ∷ b ∷ [])) ≡ Some (make a b)
+  two_back : (make : ℕ → ℕ → X) (a b : ℕ) → AllByRecursion Short (a ∷ b ∷ []) → of_two make (map decimal (a ∷ b ∷ [])) ≡ Some (make a b)
   two_back make a b h = then_back _ a h.0 ∙ one_back (make a) b h.1
 
-  three_back : (make : ℕ → ℕ → ℕ → X) (a b c : ℕ) → All Short (a ∷ b ∷ c ∷ []) → of_three make (map decimal (a ∷ b ∷ c ∷ [])) ≡ Some (make a b c)
+  three_back : (make : ℕ → ℕ → ℕ → X) (a b c : ℕ) → AllByRecursion Short (a ∷ b ∷ c ∷ []) → of_three make (map decimal (a ∷ b ∷ c ∷ [])) ≡ Some (make a b c)
   three_back make a b c h = then_back _ a h.0 ∙ two_back (make a) b c h.1
 
-asked_back : (d : ℕ) (x : Deed) → All Short (d ∷ (said x).1) → asked (said x).0 (map decimal (d ∷ (said x).1)) ≡ Some (at d x)
+asked_back : (d : ℕ) (x : Deed) → AllByRecursion Short (d ∷ (said x).1) → asked (said x).0 (map decimal (d ∷ (said x).1)) ≡ Some (at d x)
 asked_back d (deed.Create part reserve) h = three_back _ d part reserve h
 asked_back d (deed.Open part) h = two_back _ d part h
 asked_back d (deed.TakeIn amount) h = two_back _ d amount h

@@ -1,6 +1,6 @@
 -- The grammar of a line: a command word and its numbers, with a single space before each number.
 use Rattle.std.specs.Prelude.{◌≡◌, ℕ, ◌^◌, ◌<◌, Bool, true, false, cond, ◌&&◌, List, [], ◌∷◌, ◌++◌, map, length, Some, None, codes, decimal, Option, ◌==◌, nat_le}
-use Rattle.std.specs.List.{flat_map, AllByRecursion as All}
+use Rattle.std.specs.List.{flat_map, AllByRecursion}
 use Rattle.std.specs.Str.Parse.{digits_value as value}
 use Rattle.std.specs.Str.{bytes_eq, all_ascii_digits}
 use Rattle.grammar.specs.declared.command.Command.{Command}
@@ -145,7 +145,7 @@ printed c = spaced (word c) (map decimal (numbers c))
 
 -- every number has at most ten digits
 abbrev pub Fits_line : Command → Type 0
-Fits_line c = All (λ n. n < 10 ^ 10) (numbers c)
+Fits_line c = AllByRecursion (λ n. n < 10 ^ 10) (numbers c)
 
 -- every command is read back from its printed form
 abbrev pub ReadsBack : Type 0

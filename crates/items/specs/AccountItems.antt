@@ -1,6 +1,6 @@
 -- The item of an account: its body is the part, the reserve, the eight rows, and the goods issued.
 use Rattle.std.specs.Prelude.{◌≡◌, ℕ, ◌≤◌, Bool, cond, ◌&&◌, List, ◌++◌, length, take, Ok, Err, Result, ◌==◌, nat_le}
-use Rattle.std.specs.List.{flat_map, AllByRecursion as All}
+use Rattle.std.specs.List.{flat_map, AllByRecursion}
 use Rattle.account.specs.declared.refusal.Refusal.{Refusal}
 use Rattle.account.specs.declared.refusal.Refusal.TheVariants.{Malformed, OtherKind}
 use Rattle.account.specs.declared.tally.Row.{Row}
@@ -72,11 +72,11 @@ only_account bs = and_then (account_at bs 0) (λ i. cond (i.1 == length bs) (Ok 
 -- WHAT FITS AN ITEM
 
 abbrev pub RowFits : Row → Type 0
-RowFits r = (length r.counts ≡ 8) × All NumberFits r.counts
+RowFits r = (length r.counts ≡ 8) × AllByRecursion NumberFits r.counts
 
 pub record TallyFits (t : Tally) : Type 0 where
   pub reserve : NumberFits t.reserve
-  pub rows : (length t.rows ≡ 8) × All RowFits t.rows
+  pub rows : (length t.rows ≡ 8) × AllByRecursion RowFits t.rows
   pub issued : RowFits t.issued
 
 pub record ItemFits (i : AccountItem) : Type 0 where

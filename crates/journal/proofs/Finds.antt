@@ -1,6 +1,6 @@
 -- A pass over the entries, and the latest that it finds.
 use Rattle.std.proofs.Common.{◌≡◌, ℕ, ◌+◌, ◌<◌, ◌≤◌, Bool, true, false, cond, eqb, List, [], ◌∷◌, ◌++◌, length, drop, Some, None, Ok, Err, Option, Result, sym, refl, ap, ◌∙◌, subst, arith}
-use Rattle.std.specs.List.{flat_map, AllByRecursion as All}
+use Rattle.std.specs.List.{flat_map, AllByRecursion}
 use Rattle.std.specs.Option.{option_map, option_or}
 use Rattle.std.proofs.lemmas.List.{append_assoc, length-append}
 use Rattle.account.specs.declared.refusal.Refusal.{Refusal}
@@ -71,7 +71,7 @@ module _ (bs rest : List ℕ) (p : ℕ) (e : Entry) (fits : EntryFits e) (stands
 -- the pass has come to a place, and found is the latest entry of the part before it
 pub record Passed (bs : List ℕ) (part place : ℕ) (found : Option Skimmed) : Type 0 where
   pub left : List Entry
-  pub fits : All EntryFits left
+  pub fits : AllByRecursion EntryFits left
   pub rest : List ℕ
   pub stands : drop place bs ≡ flat_map entry_bytes left ++ rest
   pub ends : place + length (flat_map entry_bytes left) ≡ (scan bs).end
@@ -110,7 +110,7 @@ pub record Steps (bs : List ℕ) (part place : ℕ) (found : Option Skimmed) : T
   pub more : Passed bs part entry.next (later found entry part)
 
 module _ (bs : List ℕ) (part place : ℕ) (found : Option Skimmed) where
-  step_by : (left : List Entry) (rest : List ℕ) → All EntryFits left → drop place bs ≡ flat_map entry_bytes left ++ rest → place + length (flat_map entry_bytes left) ≡ (scan bs).end
+  step_by : (left : List Entry) (rest : List ℕ) → AllByRecursion EntryFits left → drop place bs ≡ flat_map entry_bytes left ++ rest → place + length (flat_map entry_bytes left) ≡ (scan bs).end
       → option_map Ok (latest (scan bs).entries part) ≡ option_or (option_map Ok (latest left part)) (option_map (told bs) found) → place < (scan bs).end → Steps bs part place found
   step_by [] rest fits stands ends so_far h = absurd (let z : place + 0 ≡ (scan bs).end = ends in omega arith)
   step_by (e ∷ es) rest fits stands ends so_far h =

@@ -2,7 +2,7 @@
 use Rattle.std.proofs.Common.{◌≡◌, ℕ, ◌+◌, ◌-◌, ◌<◌, ◌≤◌, Bool, true, false, cond, not, ◌&&◌, eqb, List, [], ◌∷◌, ◌++◌, length, take, drop, set, is_some, Some, None, Ok, Err, Option, sym, refl, ap, ◌∙◌, subst, arith}
 use mathlib.Core.Path.{fun_ext}
 use borrow.Rule.Slice.PartMut.{put_mid}
-use Rattle.std.specs.List.{flat_map, AllByRecursion as All}
+use Rattle.std.specs.List.{flat_map, AllByRecursion}
 use Rattle.std.specs.Option.{option_or}
 use Rattle.std.proofs.ByRecursion.{All-push}
 use Rattle.std.proofs.lemmas.List.{append_assoc, length-append, length-take, length_push, take_at, drop_at, flat_map_more}
@@ -72,7 +72,7 @@ module _ (bs : List ℕ) (end p v : ℕ) (a : Account) (ends : Ends (front_of bs
   abbrev es : List Entry
   es = entries_of bs
 
-  lawful : All EntryFits es
+  lawful : AllByRecursion EntryFits es
   lawful = scan_fits (length front) front 0
 
   -- the new end

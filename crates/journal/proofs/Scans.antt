@@ -1,6 +1,6 @@
 -- The scan of a journal: what stands before its end, and what reads back.
 use Rattle.std.proofs.Common.{◌≡◌, ℕ, zero, suc, ◌+◌, ◌<◌, ◌≤◌, List, [], ◌∷◌, ◌++◌, length, get_or, take, drop, Ok, Err, Result, sym, refl, ap, ◌∙◌, arith, w8, Fits}
-use Rattle.std.specs.List.{flat_map, AllByRecursion as All}
+use Rattle.std.specs.List.{flat_map, AllByRecursion}
 use Rattle.std.proofs.ByRecursion.{All-from_get_or}
 use Rattle.std.proofs.lemmas.List.{append_assoc, length-append, length-drop, take_at}
 use Rattle.account.specs.declared.refusal.Refusal.{Refusal}
@@ -31,7 +31,7 @@ entry_takes bs p q e all h =
 -- WHAT A SCAN FINDS
 
 abbrev pub Scanned : List ℕ → ℕ → Scan → Type 0
-Scanned bs p s = All EntryFits s.entries × Stand bs p (flat_map entry_bytes s.entries) s.end
+Scanned bs p s = AllByRecursion EntryFits s.entries × Stand bs p (flat_map entry_bytes s.entries) s.end
 
 abbrev pub NoEntry : List ℕ → ℕ → Type 0
 NoEntry bs p = (e : Entry) (q : ℕ) → entry_at bs p ≡ Ok (e, q) → ⊥
@@ -78,7 +78,7 @@ zero_ends bs rest p h =
     ap (λ (v : Result (ℕ × ℕ) Refusal). and_then v F) none
 
 module _ (bs rest : List ℕ) (f : Refusal) where
-  pub scan_back : (es : List Entry) (k p : ℕ) → All EntryFits es → drop p bs ≡ flat_map entry_bytes es ++ rest → length es ≤ k
+  pub scan_back : (es : List Entry) (k p : ℕ) → AllByRecursion EntryFits es → drop p bs ≡ flat_map entry_bytes es ++ rest → length es ≤ k
       → entry_at bs (p + length (flat_map entry_bytes es)) ≡ Err f → scan_from k bs p ≡ record { entries = es; end = p + length (flat_map entry_bytes es) }
   scan_back [] k p fits stands enough ends =
       let same : p + 0 ≡ p = omega arith in

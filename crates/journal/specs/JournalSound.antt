@@ -3,7 +3,7 @@ use Rattle.std.specs.Prelude.{◌≡◌, ℕ, zero, suc, Bool, true, false, cond
 use Rattle.std.proofs.Common.{ap, sym, subst, arith}
 use Rattle.std.proofs.lemmas.Bool.{both_ways, eqb-true}
 use Rattle.std.specs.Option.{option_or}
-use Rattle.std.specs.List.{AllByRecursion as All}
+use Rattle.std.specs.List.{AllByRecursion}
 use Rattle.account.specs.Accounts.{checked}
 use Rattle.account.specs.declared.refusal.Refusal.{Refusal}
 use Rattle.account.specs.declared.refusal.Refusal.TheVariants.{Malformed}
@@ -53,11 +53,11 @@ entry_read bs p q e h =
 
 -- THE RECORDS
 
-onward_fits : (k : ℕ) (bs : List ℕ) (p : ℕ) (r : Result (Entry × ℕ) Refusal) → entry_at bs p ≡ r → ((q : ℕ) → All EntryFits (scan_from k bs q).entries) → All EntryFits (onward p (λ q. scan_from k bs q) r).entries
+onward_fits : (k : ℕ) (bs : List ℕ) (p : ℕ) (r : Result (Entry × ℕ) Refusal) → entry_at bs p ≡ r → ((q : ℕ) → AllByRecursion EntryFits (scan_from k bs q).entries) → AllByRecursion EntryFits (onward p (λ q. scan_from k bs q) r).entries
 onward_fits k bs p (Ok e) h more = (entry_read bs p e.1 e.0 h, more e.1)
 onward_fits k bs p (Err _) h more = tt
 
-pub scan_fits : (k : ℕ) (bs : List ℕ) (p : ℕ) → All EntryFits (scan_from k bs p).entries
+pub scan_fits : (k : ℕ) (bs : List ℕ) (p : ℕ) → AllByRecursion EntryFits (scan_from k bs p).entries
 unfolding scan_from
 scan_fits zero bs p = tt
 scan_fits (suc k) bs p = onward_fits k bs p (entry_at bs p) refl (λ q. scan_fits k bs q)
@@ -76,7 +76,7 @@ record_sane e p true h f =
     (subst P (sym (eqb-true p e.part h)) f.part, f.version)
 record_sane e p false h f = tt
 
-latest_sane : (es : List Entry) (p : ℕ) → All EntryFits es → Sane p (latest es p)
+latest_sane : (es : List Entry) (p : ℕ) → AllByRecursion EntryFits es → Sane p (latest es p)
 latest_sane [] p f = tt
 latest_sane (e ∷ es) p f = or_sane p (latest es p) (record_of e p) (latest_sane es p f.1) (record_sane e p (p == e.part) refl f.0)
 

@@ -1,6 +1,6 @@
 -- What the bytes of a journal mean.
 use Rattle.std.specs.Prelude.{◌≡◌, ℕ, zero, suc, ◌-◌, ◌<◌, Bool, true, cond, ◌&&◌, List, [], ◌∷◌, ◌++◌, length, take, Some, None, Ok, Err, Option, Result, ◌==◌, ◌≢◌, nat_le, slice_set}
-use Rattle.std.specs.List.{flat_map, AllByRecursion as All}
+use Rattle.std.specs.List.{flat_map, AllByRecursion}
 use Rattle.std.specs.Option.{option_or}
 use Rattle.account.specs.Accounts.{checked}
 use Rattle.account.specs.declared.account.Account.{Account}
@@ -148,7 +148,7 @@ pub record EntryFits (e : Entry) : Type 0 where
 
 -- the entries are lawful, they are what stands before the end, and none begins there
 pub record Kept (bs : List ℕ) : Type 0 where
-  pub lawful : All EntryFits (entries_of bs)
+  pub lawful : AllByRecursion EntryFits (entries_of bs)
   pub before : take (end_of bs) bs ≡ flat_map entry_bytes (entries_of bs)
   pub after : (e : Entry) (q : ℕ) → entry_at (front_of bs) (end_of bs) ≢ Ok (e, q)
 
@@ -158,7 +158,7 @@ EntriesStand = (bs : List ℕ) → Bytes bs → Kept bs
 -- lawful entries that were written, with a zero byte after them, read back
 abbrev pub EntriesReadBack : Type 0
 EntriesReadBack =
-    (es : List Entry) (rest : List ℕ) → All EntryFits es → length (flat_map entry_bytes es) < 65536 → entries_of (flat_map entry_bytes es ++ 0 ∷ rest) ≡ es
+    (es : List Entry) (rest : List ℕ) → AllByRecursion EntryFits es → length (flat_map entry_bytes es) < 65536 → entries_of (flat_map entry_bytes es ++ 0 ∷ rest) ≡ es
 
 abbrev pub StartedIsEmpty : Type 0
 StartedIsEmpty = (bs : List ℕ) → entries_of (started bs) ≡ []

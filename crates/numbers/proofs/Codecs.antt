@@ -1,6 +1,6 @@
 -- Reading and writing fit each other: numbers, and so many values one after another.
 use Rattle.std.proofs.Common.{◌≡◌, ℕ, zero, suc, ◌+◌, ◌*◌, ◌≤◌, List, [], ◌∷◌, ◌++◌, length, drop, Ok, Err, sym, refl, ap, ◌∙◌, subst, mul-suc, arith}
-use Rattle.std.specs.List.{flat_map, AllByRecursion as All}
+use Rattle.std.specs.List.{flat_map, AllByRecursion}
 use Rattle.std.proofs.ByRecursion.{All-drop}
 use Rattle.std.proofs.lemmas.List.{append_assoc, length-append, drop-drop, take-append-drop, length-take-le}
 use Rattle.numbers.specs.Numbers.{NumberFits, Got, front_number, number_bytes, number_at, placed}
@@ -38,10 +38,10 @@ number_only bs p q n all h =
 
 module _ {X : Type 0} (read : Reading X) (bytes : X → List ℕ) (Fits : X → Type 0) where
   abbrev pub ManyFit : ℕ → List X → Type 0
-  ManyFit k xs = (length xs ≡ k) × All Fits xs
+  ManyFit k xs = (length xs ≡ k) × AllByRecursion Fits xs
 
   module _ (back : ReadsBack read bytes Fits) (bs rest : List ℕ) where
-    all_back : (xs : List X) (p : ℕ) → All Fits xs → drop p bs ≡ flat_map bytes xs ++ rest → many read (length xs) bs p ≡ Ok (xs, p + length (flat_map bytes xs))
+    all_back : (xs : List X) (p : ℕ) → AllByRecursion Fits xs → drop p bs ≡ flat_map bytes xs ++ rest → many read (length xs) bs p ≡ Ok (xs, p + length (flat_map bytes xs))
     unfolding many
     all_back [] p a stands = ap (λ (q : ℕ). Ok ([], q)) (omega arith)
     all_back (x ∷ xs) p a stands =
@@ -73,7 +73,7 @@ module _ {X : Type 0} (read : Reading X) (bytes : X → List ℕ) (Fits : X → 
       subst P pair ((ap suc later.0.0, (here.0, later.0.1)), stand_join bs p one.0.1 rest.1 (bytes x) (flat_map bytes rest.0) here.1 later.1)
 
   -- so many values take no more than so many times the most that one takes
-  pub many-most : (m : ℕ) → ((x : X) → Fits x → length (bytes x) ≤ m) → (xs : List X) → All Fits xs → length (flat_map bytes xs) ≤ m * length xs
+  pub many-most : (m : ℕ) → ((x : X) → Fits x → length (bytes x) ≤ m) → (xs : List X) → AllByRecursion Fits xs → length (flat_map bytes xs) ≤ m * length xs
   many-most m most [] a = omega arith
   many-most m most (x ∷ xs) a =
       let l = length-append (bytes x) (flat_map bytes xs) in

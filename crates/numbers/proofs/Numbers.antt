@@ -2,7 +2,7 @@
 use Rattle.std.proofs.Common.{◌≡◌, ℕ, zero, suc, ◌+◌, ◌-◌, ◌*◌, ◌/◌, ◌%◌, ◌^◌, ◌<◌, ◌≤◌, Bool, true, false, cond, ◌&&◌, eqb, ltb, leb, ◌⊎◌, List, [], ◌∷◌, ◌++◌, length, get_or, take, drop, set, Ok, Err, sym, refl, ap, ◌∙◌, subst, inl, inr, mul-le-mul_right, mul_assoc, mul_comm, add-mul, pow-suc, add-one, arith}
 use native.Mathlib.Nat.{pow-le-pow_right}
 use Rattle.std.proofs.lemmas.Bool.{lt-ltb, le-ltb, eqb-false, eq-eqb, ne_eqb, le-leb, lt-leb, leb-true, cases_lt, cases_Bool}
-use Rattle.std.specs.List.{AllByRecursion as All}
+use Rattle.std.specs.List.{AllByRecursion}
 use Rattle.std.proofs.lemmas.List.{at_drop_more, at_drop_all, append_assoc, drop-drop, drop-set-lt, take_more_set, take-append-drop, take_at}
 use Rattle.numbers.specs.declared.number.Fault.TheVariants.{Short, Wrong}
 use Rattle.numbers.specs.Numbers.{groups, number_bytes, Got, above, grouped, in_range, front_number}
@@ -151,7 +151,7 @@ written_more k b bs m v n u h l ne is used w =
       rw (ge, high, used) (ap suc w.1),
     )
 
-pub grouped-written : (k : ℕ) (bs : List ℕ) (p : ℕ × ℕ) → All (λ b. b < 256) bs → grouped k bs ≡ Ok p → Written k bs p
+pub grouped-written : (k : ℕ) (bs : List ℕ) (p : ℕ × ℕ) → AllByRecursion (λ b. b < 256) bs → grouped k bs ≡ Ok p → Written k bs p
 grouped-written k [] p a e = absurd (let z : ◌≡◌ {A = ℕ} 0 1 = cc in omega arith)
 grouped-written zero (b ∷ bs) p a e =
     elim (cases_lt b 128) [
@@ -273,7 +273,7 @@ front_back n rest h =
     ap (in_range 1000000000) (grouped-groups 4 n rest (omega arith)) ∙ rw (le-leb n 1000000000 h)
 
 -- only what writing gives is read
-pub front_only : (bs : List ℕ) (n used : ℕ) → All (λ b. b < 256) bs → front_number bs ≡ Ok (n, used) → (n ≤ 1000000000) × (take used bs ≡ number_bytes n)
+pub front_only : (bs : List ℕ) (n used : ℕ) → AllByRecursion (λ b. b < 256) bs → front_number bs ≡ Ok (n, used) → (n ≤ 1000000000) × (take used bs ≡ number_bytes n)
 unfolding front_number number_bytes
 front_only bs n used a e =
     let g = in_range_ok 1000000000 (grouped 4 bs) (n, used) e in

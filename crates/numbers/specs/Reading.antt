@@ -1,6 +1,6 @@
 -- Reading at a place of some bytes, and what it has to do with writing.
 use Rattle.std.specs.Prelude.{◌≡◌, ℕ, zero, suc, ◌+◌, ◌<◌, List, [], ◌∷◌, ◌++◌, length, drop, Ok, Err, Result}
-use Rattle.std.specs.List.{AllByRecursion as All}
+use Rattle.std.specs.List.{AllByRecursion}
 use Rattle.account.specs.declared.refusal.Refusal.{Refusal}
 
 -- a reading answers a value and the place after it, or why there is none
@@ -24,7 +24,7 @@ abbrev pub ReadsBack : {X : Type 0} → Reading X → (X → List ℕ) → (X �
 ReadsBack {X} read bytes Fits = (bs rest : List ℕ) (p : ℕ) (x : X) → Fits x → drop p bs ≡ bytes x ++ rest → read bs p ≡ Ok (x, p + length (bytes x))
 
 abbrev pub Bytes : List ℕ → Type 0
-Bytes bs = All (λ b. b < 256) bs
+Bytes bs = AllByRecursion (λ b. b < 256) bs
 
 -- some bytes stand from p up to q
 pub record Stand (bs : List ℕ) (p : ℕ) (part : List ℕ) (q : ℕ) : Type 0 where

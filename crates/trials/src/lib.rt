@@ -2,7 +2,7 @@
 #![tactic(auto)]
 
 #[cfg(test)]
-mod items;
+mod account_items;
 #[cfg(test)]
 mod journals;
 

@@ -1,2 +1,3 @@
 pub mod Feeding
-pub mod Thirds
+pub mod Keeping
+pub mod Serving

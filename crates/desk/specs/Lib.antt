@@ -1,3 +1,4 @@
+pub mod Outboxes
 pub mod Deeds
 pub mod Places
 pub mod Desks

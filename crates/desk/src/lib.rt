@@ -2,6 +2,7 @@
 #![tactic(auto)]
 
 pub mod desk;
+pub mod outbox;
 pub mod place;
 pub mod pocket;
 pub mod which;

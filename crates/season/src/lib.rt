@@ -3,3 +3,5 @@
 
 pub mod call;
 pub mod play;
+pub mod sending;
+pub mod sent;

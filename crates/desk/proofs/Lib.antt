@@ -1,3 +1,2 @@
 pub mod Feeding
-pub mod Keeping
-pub mod Serving
+pub mod Thirds

@@ -1,5 +1,5 @@
 -- What a line does at one depot: the call that it makes, and the answer that is printed.
-use Rattle.std.specs.Prelude.{ℕ, min, cond, List, Some, None, Ok, Err, Option, Result}
+use Rattle.std.specs.Prelude.{ℕ, min, cond, Some, None, Ok, Err, Option, Result}
 use Rattle.std.specs.Option.{option_map, unwrap_or}
 use Rattle.account.specs.Bookings.{in_range}
 use Rattle.account.specs.declared.booking.Booking.{Booking}
@@ -17,8 +17,7 @@ use Rattle.grammar.specs.declared.command.Deed.TheVariants.{Create, Open, TakeIn
 use Rattle.season.specs.declared.call.Call.{Call}
 use Rattle.season.specs.declared.call.Call.TheVariants as call
 use Rattle.season.specs.declared.call.Reply.{Reply}
-use Rattle.season.specs.declared.call.Reply.TheVariants.{Created, Opened, Booked, Filed, Dropped, Restarted, Sent}
-use Rattle.desk.specs.Outboxes.{sent_answer, sent_after}
+use Rattle.season.specs.declared.call.Reply.TheVariants.{Created, Opened, Booked, Filed, Dropped, Restarted}
 
 -- a number of a line as an argument of 32 bits: the greatest of them is out of every range, as all above it are
 abbrev pub narrowed : ℕ → ℕ
@@ -56,7 +55,7 @@ call_of o (HandOver n q) = book_call o (booking_of (HandOver n q))
 call_of o File = option_map call.File o
 call_of o DropDraft = option_map call.DropDraft o
 call_of o Restart = Some call.Restart
-call_of o (Send part) = Some (call.Send (narrowed part))
+call_of o (Send part) = None
 call_of o (Receive item) = None
 call_of o (Stock part) = None
 call_of o (OwnFree part) = None
@@ -90,25 +89,14 @@ abbrev pub over_told : Result ℕ Declined → Answer
 over_told (Ok n) = print.Ok n
 over_told (Err d) = print.No d.refusal
 
--- what is printed of a reply, where these items have been sent: for opening the version, for sending the length
-abbrev pub answer_to : List (List ℕ) → Reply → Answer
-answer_to items (Created r) = told r
-answer_to items (Opened r) = version_told r
-answer_to items (Booked s r) = told r
-answer_to items (Filed r) = over_told r
-answer_to items (Dropped r) = over_told r
-answer_to items (Restarted n) = print.Ok n
-answer_to items (Sent r) = sent_answer items r
-
--- the items after a reply
-abbrev pub items_after : List (List ℕ) → Reply → List (List ℕ)
-items_after items (Created r) = items
-items_after items (Opened r) = items
-items_after items (Booked s r) = items
-items_after items (Filed r) = items
-items_after items (Dropped r) = items
-items_after items (Restarted n) = items
-items_after items (Sent r) = sent_after items r
+-- what is printed of a reply: for opening the version
+abbrev pub answer_to : Reply → Answer
+answer_to (Created r) = told r
+answer_to (Opened r) = version_told r
+answer_to (Booked s r) = told r
+answer_to (Filed r) = over_told r
+answer_to (Dropped r) = over_told r
+answer_to (Restarted n) = print.Ok n
 
 -- the slip after a reply: a new one, one that was shown, or one that was handed back
 abbrev pub new_slip : Option Slip → Result Slip Refusal → Option Slip
@@ -126,7 +114,6 @@ kept o (Booked s r) = Some s
 kept o (Filed r) = back_slip r
 kept o (Dropped r) = back_slip r
 kept o (Restarted n) = None
-kept o (Sent r) = o
 
 -- advice: the depot's number, or 0 for none
 abbrev pub named_told : Result (Option ℕ) Refusal → Answer
@@ -148,7 +135,7 @@ read_answer v (HandOver n q) = lacking (booking_of (HandOver n q))
 read_answer v File = lacking None
 read_answer v DropDraft = lacking None
 read_answer v Restart = lacking None
-read_answer v (Send part) = lacking None
+read_answer v (Send part) = print.No UnknownLine
 read_answer v (Receive item) = print.No UnknownLine
 read_answer v (Stock part) = told (stock_answer v (narrowed part))
 read_answer v (OwnFree part) = told (own_free_answer v (narrowed part))

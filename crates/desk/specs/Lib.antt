@@ -1,4 +1,3 @@
-pub mod Outboxes
 pub mod Deeds
 pub mod Places
 pub mod Desks

@@ -1,7 +1,5 @@
-// The three depots of a desk, and what they have sent.
-use crate::outbox::Outbox;
+// The three depots of a desk.
 use crate::place::Place;
-use journal::journal::Journal;
 use store::window::Window;
 use table::table::Table;
 
@@ -9,11 +7,10 @@ pub mod feed;
 pub mod line;
 pub mod start;
 
-// Depot 1 stands on a table, depot 2 on a lent journal, depot 3 on a window over a table.
+// Depots 1 and 2 stand on tables, depot 3 on a window over one.
 #[derive(Drop)]
-pub struct Desk<'a, 'b> {
+pub struct Desk<'a> {
     one: Place<Table<'a>>,
-    two: Place<&'a mut Journal<'b>>,
+    two: Place<Table<'a>>,
     three: Place<Window<Table<'a>>>,
-    outbox: Outbox,
 }

@@ -2,7 +2,6 @@
 #![tactic(auto)]
 
 pub mod desk;
-pub mod outbox;
 pub mod place;
 pub mod pocket;
 pub mod which;

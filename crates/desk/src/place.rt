@@ -5,10 +5,8 @@ ghost use Rattle.account.specs.Advice.{number_if};
 ghost use Rattle.depot.specs.Accounts.{named_in};
 ghost use Rattle.depot.specs.Views.{view};
 ghost use Rattle.desk.specs.Deeds.{booking_of, lacking, read_answer, named_told};
-ghost use Rattle.desk.specs.Outboxes.{items_in};
 ghost use Rattle.desk.specs.Places.{place, deed_answer, Served};
 
-use crate::outbox::Outbox;
 use crate::pocket::{Pocket, booking_of, narrow, told};
 use account::depot_number::DepotNumber;
 use account::refusal::Refusal;
@@ -57,15 +55,15 @@ fn lacking(deed: Deed) -> Answer
 }
 
 impl<S: Store> Place<S> {
-    // Does what a line asks for at this depot, and answers it. What is sent goes to the outbox.
-    pub fn serve(&mut self, deed: Deed, outbox: &mut Outbox) -> Answer
-        ensures answer { result ≡ deed_answer (place (view self.old.depot.inner (S.meaning self.old.depot.store)) self.old.pocket) (items_in outbox.old) deed }
-        ensures after { Served (place (view self.old.depot.inner (S.meaning self.old.depot.store)) self.old.pocket) (items_in outbox.old) deed (place (view self.new.depot.inner (S.meaning self.new.depot.store)) self.new.pocket) (items_in outbox.new) }
+    // Does what a line asks for at this depot, and answers it.
+    pub fn serve(&mut self, deed: Deed) -> Answer
+        ensures answer { result ≡ deed_answer (place (view self.old.depot.inner (S.meaning self.old.depot.store)) self.old.pocket) deed }
+        ensures after { Served (place (view self.old.depot.inner (S.meaning self.old.depot.store)) self.old.pocket) deed (place (view self.new.depot.inner (S.meaning self.new.depot.store)) self.new.pocket) }
     {
         match self.pocket.compose(deed) {
             Some(call) => {
                 let reply = play(&mut self.depot, call);
-                self.pocket.settle(reply, outbox)
+                self.pocket.settle(reply)
             }
             None => self.read(deed),
         }
@@ -81,7 +79,7 @@ impl<S: Store> Place<S> {
             Deed::Advise { part, amount } => {
                 named(self.depot.advise(narrow(part), narrow(amount)))
             }
-            Deed::Receive { .. } => Answer::No(Refusal::UnknownLine),
+            Deed::Send { .. } | Deed::Receive { .. } => Answer::No(Refusal::UnknownLine),
             _ => lacking(deed),
         }
     }

@@ -1,9 +1,7 @@
 // The slip that is kept between lines.
 ghost use Rattle.std.specs.Prelude.{◌≡◌, None};
-ghost use Rattle.desk.specs.Deeds.{narrowed, booking_of, book_call, call_of, left_by, told, over_told, answer_to, items_after, back_slip, kept};
-ghost use Rattle.desk.specs.Outboxes.{items_in};
+ghost use Rattle.desk.specs.Deeds.{narrowed, booking_of, book_call, call_of, left_by, told, over_told, answer_to, back_slip, kept};
 
-use crate::outbox::Outbox;
 use account::booking::Booking;
 use account::refusal::Refusal;
 use depot::slip::{Declined, Slip};
@@ -82,7 +80,6 @@ impl Pocket {
                 self.slip = None;
                 Some(Call::Restart)
             }
-            Deed::Send { part } => Some(Call::Send { part: narrow(part) }),
             _ => None,
         }
     }
@@ -97,11 +94,10 @@ impl Pocket {
         Some(Call::Book { slip, booking })
     }
 
-    // What is printed of a reply. A slip that comes with it goes into the pocket, an item to the outbox.
-    pub fn settle(&mut self, reply: Reply, outbox: &mut Outbox) -> Answer
-        ensures answer { result ≡ answer_to (items_in outbox.old) reply }
+    // What is printed of a reply. A slip that comes with it goes into the pocket.
+    pub fn settle(&mut self, reply: Reply) -> Answer
+        ensures answer { result ≡ answer_to reply }
         ensures after { self.new.slip ≡ kept self.old.slip reply }
-        ensures sent { items_in outbox.new ≡ items_after (items_in outbox.old) reply }
     {
         match reply {
             Reply::Created(answer) => told_narrow(answer),
@@ -121,7 +117,6 @@ impl Pocket {
                 self.slip = None;
                 Answer::Ok(u64::from(lost))
             }
-            Reply::Sent(sent) => outbox.keep(sent),
         }
     }
 

@@ -1,5 +1,4 @@
 // A call of a depot, and what it replies.
-use crate::sent::SentItem;
 use account::booking::Booking;
 use account::refusal::Refusal;
 use depot::slip::{Declined, Slip};
@@ -13,7 +12,6 @@ pub enum Call {
     File { slip: Slip },
     DropDraft { slip: Slip },
     Restart,
-    Send { part: u32 },
 }
 
 // A slip that was only shown comes back.
@@ -28,5 +26,4 @@ pub enum Reply {
     Filed(Result<u32, Declined>),
     Dropped(Result<u32, Declined>),
     Restarted(u32),
-    Sent(Result<SentItem, Refusal>),
 }

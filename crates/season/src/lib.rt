@@ -3,5 +3,3 @@
 
 pub mod call;
 pub mod play;
-pub mod sending;
-pub mod sent;

@@ -4,7 +4,6 @@ ghost use Rattle.depot.specs.Views.{view};
 ghost use Rattle.season.specs.Calls.{reply_to, Does};
 
 use crate::call::{Call, Reply};
-use crate::sending::send;
 use account::booking::Booking;
 use depot::depot::Depot;
 use store::store::Store;
@@ -28,6 +27,5 @@ pub fn play<S: Store>(depot: &mut Depot<S>, call: Call) -> Reply
         Call::File { slip } => Reply::Filed(depot.file(slip)),
         Call::DropDraft { slip } => Reply::Dropped(depot.drop_draft(slip)),
         Call::Restart => Reply::Restarted(depot.restart()),
-        Call::Send { part } => Reply::Sent(send(depot, part)),
     }
 }

@@ -6,7 +6,7 @@ ghost use Rattle.desk.specs.Feeds.{Fed, Taken};
 use super::Desk;
 use std::alloc::AllocError;
 
-impl Desk<'_, '_> {
+impl Desk<'_> {
     // Answers every line that ends in the bytes. What stands behind the last line feed stays in `begun`.
     pub fn feed(
         &mut self,

@@ -9,12 +9,12 @@ use account::refusal::Refusal;
 use grammar::answer::Answer;
 use grammar::command::{Command, Deed};
 
-// Receiving is no line of the program yet.
+// Sending and receiving are no lines of the program yet.
 fn is_line(deed: Deed) -> bool
     ensures { result ≡ is_line deed }
 {
     match deed {
-        Deed::Receive { .. } => false,
+        Deed::Send { .. } | Deed::Receive { .. } => false,
         _ => true,
     }
 }
@@ -31,7 +31,7 @@ fn which(depot: u64) -> Option<Which>
     }
 }
 
-impl Desk<'_, '_> {
+impl Desk<'_> {
     // Does what a line asks for, and answers it. Any bytes are a line.
     pub fn line(&mut self, line: &[u8]) -> Answer
         ensures answer { result ≡ line_answer (desk_view self.old) line.now }
@@ -59,13 +59,13 @@ impl Desk<'_, '_> {
 
     // Does a deed at one depot.
     fn serve(&mut self, depot: Which, deed: Deed) -> Answer
-        ensures answer { result ≡ deed_answer (at_place (desk_view self.old) depot) (desk_view self.old).sent deed }
+        ensures answer { result ≡ deed_answer (at_place (desk_view self.old) depot) deed }
         ensures after { Only (desk_view self.old) depot deed (desk_view self.new) }
     {
         match depot {
-            Which::One => self.one.serve(deed, &mut self.outbox),
-            Which::Two => self.two.serve(deed, &mut self.outbox),
-            Which::Three => self.three.serve(deed, &mut self.outbox),
+            Which::One => self.one.serve(deed),
+            Which::Two => self.two.serve(deed),
+            Which::Three => self.three.serve(deed),
         }
     }
 }

@@ -1,18 +1,15 @@
 // A desk with empty depots.
 ghost use Rattle.std.specs.Prelude.{◌≡◌};
-ghost use Rattle.desk.specs.Desks.{number_at, table_place, journal_place, window_place, desk_view, fresh_place, start_view};
-ghost use Rattle.journal.specs.Journals.{journal_meaning, started};
+ghost use Rattle.desk.specs.Desks.{number_at, table_place, window_place, desk_view, fresh_place, start_view};
 ghost use Rattle.store.specs.Windows.{seen};
 ghost use Rattle.table.specs.Tables.{table_meaning, emptied};
 
 use super::Desk;
-use crate::outbox::Outbox;
 use crate::place::Place;
 use crate::pocket::Pocket;
 use crate::which::Which;
 use account::depot_number::DepotNumber;
 use depot::depot::Depot;
-use journal::journal::Journal;
 use store::window::Window;
 use table::slot::Slot;
 use table::table::Table;
@@ -47,20 +44,6 @@ fn on_table(number: DepotNumber, slots: &mut [Slot]) -> Place<Table<'_>>
     }
 }
 
-// A depot on a journal, which is emptied.
-fn on_journal<'a, 'b>(
-    number: DepotNumber,
-    journal: &'a mut Journal<'b>,
-) -> Place<&'a mut Journal<'b>>
-    ensures { journal_place result ≡ fresh_place number.number (journal_meaning (started journal.old.bytes.now)) }
-{
-    journal.clear();
-    Place {
-        depot: Depot::new(number, journal),
-        pocket: Pocket::empty(),
-    }
-}
-
 // A depot on a window over a table.
 fn on_window(number: DepotNumber, slots: &mut [Slot]) -> Place<Window<Table<'_>>>
     ensures { window_place result ≡ fresh_place number.number (seen (table_meaning (emptied slots.old)) 0 50) }
@@ -72,20 +55,15 @@ fn on_window(number: DepotNumber, slots: &mut [Slot]) -> Place<Window<Table<'_>>
     }
 }
 
-impl<'a, 'b> Desk<'a, 'b> {
+impl<'a> Desk<'a> {
     // Three depots, each on memory of its own, which is emptied.
-    pub fn start(
-        one: &'a mut [Slot],
-        two: &'a mut Journal<'b>,
-        three: &'a mut [Slot],
-    ) -> Desk<'a, 'b>
-        ensures { desk_view result ≡ start_view one.old two.old.bytes.now three.old }
+    pub fn start(one: &'a mut [Slot], two: &'a mut [Slot], three: &'a mut [Slot]) -> Desk<'a>
+        ensures { desk_view result ≡ start_view one.old two.old three.old }
     {
         Desk {
             one: on_table(number(Which::One), one),
-            two: on_journal(number(Which::Two), two),
+            two: on_table(number(Which::Two), two),
             three: on_window(number(Which::Three), three),
-            outbox: Outbox::empty(),
         }
     }
 }

@@ -3,9 +3,11 @@ pub mod Advising
 pub mod Balance
 pub mod Checked
 pub mod Each
+pub mod Depots
 pub mod Merges
 pub mod Moves
 pub mod Places
+pub mod Rises
 pub mod Fresh
 pub mod Limits
 pub mod Same

@@ -9,8 +9,8 @@ use Rattle.account.specs.Tallies.{limit, no_row, count, row, handed, issued_by, 
 use Rattle.account.specs.Lawful.{each, shaped, within, ranged, covered}
 use Rattle.account.specs.declared.tally.Row.{Row}
 use Rattle.account.specs.declared.tally.Tally.{Tally}
-use Rattle.account.proofs.Each.{each-here, each_from, each_not}
 use Rattle.account.proofs.Places.{row_at}
+use Rattle.account.proofs.Each.{each-here, each_from, each_not}
 
 -- a count is within the limit
 pub within-here : (f : ℕ → ℕ) → within f ≡ true → (k : ℕ) → 1 ≤ k → k ≤ 8 → f k ≤ limit
@@ -20,10 +20,6 @@ within-here f h k a b = leb-true (f k) limit (each-here 8 (λ i. leb (f i) limit
 pub within-from : (f : ℕ → ℕ) → ((k : ℕ) → 1 ≤ k → k ≤ 8 → f k ≤ limit) → within f ≡ true
 unfolding within
 within-from f h = each_from 8 (λ i. leb (f i) limit) (λ k a b. le-leb (f k) limit (h k a b))
-
-pub within_not : (f : ℕ → ℕ) (k : ℕ) → 1 ≤ k → k ≤ 8 → limit < f k → within f ≡ false
-unfolding within
-within_not f k a b h = each_not 8 (λ i. leb (f i) limit) k a b (lt-leb (f k) limit h)
 
 -- rights of n or more
 at_least : (n h g : ℕ) → le_z (pos n) (pos h -ℤ pos g) ≡ leb (g + n) h
@@ -38,14 +34,14 @@ covered-here c h j a b =
     let one = leb-true (gave c j + 0) (had c j) (sym (enough c 0 j) ∙ each-here 8 (λ k. le_z (pos 0) (rights c k)) h j a b) in
     omega arith
 
+-- the test of depot j
+pub covers_at : (c : Counter) (j : ℕ) → le_z (pos 0) (rights c j) ≡ leb (gave c j) (had c j)
+covers_at c j = enough c 0 j ∙ ap (λ (n : ℕ). leb n (had c j)) (omega arith)
+
 pub covered-from : (c : Counter) → ((j : ℕ) → 1 ≤ j → j ≤ 8 → gave c j ≤ had c j) → covered c ≡ true
 unfolding covered
 covered-from c h =
     each_from 8 (λ k. le_z (pos 0) (rights c k)) (λ j a b. enough c 0 j ∙ le-leb (gave c j + 0) (had c j) (omega (arith, h j a b)))
-
-pub covered_not : (c : Counter) (j : ℕ) → 1 ≤ j → j ≤ 8 → had c j < gave c j → covered c ≡ false
-unfolding covered
-covered_not c j a b h = each_not 8 (λ k. le_z (pos 0) (rights c k)) j a b (enough c 0 j ∙ lt-leb (gave c j + 0) (had c j) (omega arith))
 
 -- a row above the limit, and a reserve above it
 pub row_not : (t : Tally) (i : ℕ) → i < 8 → within (count (get_or t.rows i no_row)) ≡ false → ranged (counter_of t) ≡ false

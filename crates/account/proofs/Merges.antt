@@ -1,26 +1,12 @@
 -- The join of two accounts, and its laws.
-use Rattle.std.proofs.Common.{◌≡◌, true, false, not, eqb, Ok, Err, sym, ap, ◌∙◌, arith}
-use Rattle.std.proofs.lemmas.Bool.{cond-true, cond-false, eq-eqb}
+use Rattle.std.proofs.Common.{◌≡◌, true, sym, arith}
 use Rattle.account.specs.Counter.{merge}
-use Rattle.account.specs.Joins.{joined, join_answer}
+use Rattle.account.specs.Joins.{joined}
 use Rattle.account.specs.Lawful.{covered, lawful}
 use Rattle.account.specs.Tallies.{counter_of}
-use Rattle.account.specs.declared.refusal.Refusal.TheVariants.{Contradiction}
 use Rattle.account.specs.declared.tally.Tally.{Tally}
 use Rattle.account.proofs.Balance.{law_ranged, law_covered}
 use Rattle.account.proofs.Moves.{kept_by, ranged_of, lawful_by}
-
-module _ (t u : Tally) (same : t.reserve ≡ u.reserve) where
-  one-reserve : not (eqb t.reserve u.reserve) ≡ false
-  one-reserve = ap not (eq-eqb t.reserve u.reserve same)
-
-  pub join_refused : false ≡ covered (counter_of (joined t u)) → Err Contradiction ≡ join_answer t u
-  join_refused h =
-      sym (cond-false (not (eqb t.reserve u.reserve)) _ _ one-reserve ∙ cond-true (not (covered (counter_of (joined t u)))) _ _ (ap not (sym h)))
-
-  pub join_accepted : true ≡ covered (counter_of (joined t u)) → Ok (joined t u) ≡ join_answer t u
-  join_accepted h =
-      sym (cond-false (not (eqb t.reserve u.reserve)) _ _ one-reserve ∙ cond-false (not (covered (counter_of (joined t u)))) _ _ (ap not (sym h)))
 
 pub join_lawful : (t u : Tally) → lawful t ≡ true → lawful u ≡ true → true ≡ covered (counter_of (joined t u)) → lawful (joined t u) ≡ true
 join_lawful t u p q h =

@@ -1,6 +1,6 @@
 -- Depot i + 1 has the count at place i.
-use Rattle.std.proofs.Common.{◌≡◌, ℕ, ◌+◌, ◌-◌, get_or, ap, ◌∙◌, arith}
-use Rattle.account.specs.Tallies.{no_row, count, row, handed}
+use Rattle.std.proofs.Common.{◌≡◌, ℕ, ◌+◌, ◌-◌, get_or, ap, arith}
+use Rattle.account.specs.Tallies.{no_row, count, row}
 use Rattle.account.specs.declared.tally.Row.{Row}
 use Rattle.account.specs.declared.tally.Tally.{Tally}
 
@@ -12,6 +12,3 @@ count_at r i = ap (λ (k : ℕ). get_or r.counts k 0) (back i)
 
 pub row_at : (t : Tally) (i : ℕ) → row t (i + 1) ≡ get_or t.rows i no_row
 row_at t i = ap (λ (k : ℕ). get_or t.rows k no_row) (back i)
-
-pub handed-at : (t : Tally) (i j : ℕ) → handed t (i + 1) (j + 1) ≡ get_or (get_or t.rows i no_row).counts j 0
-handed-at t i j = ap (λ (k : ℕ). get_or (get_or t.rows k no_row).counts (j + 1 - 1) 0) (back i) ∙ count_at (get_or t.rows i no_row) j

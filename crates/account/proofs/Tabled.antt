@@ -1,15 +1,16 @@
 -- A tally whose counts are those of a counter is the tally of that counter.
-use Rattle.std.proofs.Common.{◌≡◌, ℕ, ◌+◌, ◌-◌, ◌<◌, ◌≤◌, Bool, true, cond, ◌&&◌, eqb, ◌≢◌, List, length, get_or, set, sym, refl, ap, ◌∙◌, subst, ⊎_elim, arith, below_more}
+use Rattle.std.proofs.Common.{◌≡◌, ℕ, ◌+◌, ◌-◌, ◌≤◌, Bool, true, cond, ◌&&◌, eqb, ◌≢◌, List, length, get_or, set, sym, refl, ap, ◌∙◌, subst, ⊎_elim, arith}
 use mathlib.Core.Path.{fun_ext}
 use Rattle.std.proofs.lemmas.List.FromFn.{length-map-range_with_len, get_or-map-range_with_len}
 use Rattle.std.proofs.lemmas.List.{ext_get_or, get_or-set_same, get_or-set_other, length-set}
 use Rattle.std.proofs.lemmas.Bool.{and_parts, and_from, eqb-true, eq-eqb, cases_eq, ne_eqb, cond-true, cond-false, and_left}
-use Rattle.account.specs.Counter.{Counter, raised, decrement, transfer}
+use Rattle.account.specs.Counter.{Counter, total, raised, decrement, transfer}
 use Rattle.account.specs.Lawful.{each, shaped}
 use Rattle.account.specs.Tallies.{no_row, count, row, handed, issued_by, counter_of, eight, row_of, tally_of, row_raised}
 use Rattle.account.specs.declared.tally.Row.{Row}
 use Rattle.account.specs.declared.tally.Tally.{Tally}
 use Rattle.account.proofs.Each.{each-here, each_from}
+use Rattle.account.proofs.Totals.{total-same}
 
 -- eight values
 pub eight-length : {X : Type 0} (f : ℕ → X) → length (eight f) ≡ 8
@@ -118,24 +119,9 @@ module _ (t : Tally) (s : Shape t) (i n : ℕ) (i1 : 1 ≤ i) (i8 : i ≤ 8) whe
     handed-raised =
         tally_is new (transfer (counter_of t) i j n) (length-set t.rows (i - 1) (row_raised (row t i) j n) ∙ s.rows) refl row_new (row_is t.issued (issued_by t) s.issued (λ k p q. refl))
 
--- a loop that has written f 1 to f i over ys
-abbrev pub Filling : {X : Type 0} → X → (ℕ → X) → List X → ℕ → List X → Type 0
-Filling d f ys i xs = ((k : ℕ) → k < i → get_or xs k d ≡ f (k + 1)) × (length xs ≡ length ys) × (0 < i → length ys ≡ 8)
-
-module _ {X : Type 0} (d : X) (f : ℕ → X) (ys : List X) where
-  pub filling_none : Filling d f ys 0 ys
-  filling_none = ((λ k h. absurd (omega arith)), refl, λ h. absurd (omega arith))
-
-  pub filling_more : (i : ℕ) (xs : List X) (v : X) → Filling d f ys i xs → length ys ≡ 8 → i < 8 → v ≡ f (i + 1) → Filling d f ys (i + 1) (set xs i v)
-  filling_more i xs v s l h e = (
-    below_more _ _ (λ k b. get_or-set_other xs i k v d (λ same. absurd (omega arith)) ∙ s.0 k b) (get_or-set_same xs i v d (omega (arith, s.1)) ∙ e),
-    length-set xs i v ∙ s.1,
-    (λ _. l),
-  )
-
-  pub filling_all : (i : ℕ) (xs : List X) → Filling d f ys i xs → i ≡ 8 → xs ≡ eight f
-  filling_all i xs s e =
-      eight_is xs d f (s.1 ∙ s.2 (omega arith)) (λ j a b. let back : j - 1 + 1 ≡ j = omega arith in s.0 (j - 1) (omega arith) ∙ ap f back)
+-- a row of eight figures, added up
+pub total-row : (f : ℕ → ℕ) → total 8 (count (row_of f)) ≡ total 8 f
+total-row f = total-same 8 f (count (row_of f)) (λ k a b. eight-at f 0 k a b)
 
 -- counters that agree at the eight depots have one tally
 pub tabled_same : (c d : Counter)

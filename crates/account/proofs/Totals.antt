@@ -1,16 +1,10 @@
 -- Laws of sums over depots.
-use Rattle.std.proofs.Common.{◌≡◌, ℕ, zero, suc, ◌+◌, ◌*◌, ◌≤◌, cond, eqb, ◌≢◌, sym, refl, ap, ◌∙◌, subst, ⊎_elim, add-mul, add-one, arith}
+use Rattle.std.proofs.Common.{◌≡◌, ℕ, zero, suc, ◌+◌, ◌-◌, ◌*◌, ◌≤◌, List, length, take, get_or, sum_by, cond, eqb, ◌≢◌, sym, refl, ap, ◌∙◌, ⊎_elim, add-mul, arith}
+use Rattle.std.proofs.lemmas.List.{take_all}
+use Rattle.std.proofs.lemmas.List.Sums.{sum_by_more}
 use Rattle.std.proofs.lemmas.Bool.{cases_eq}
 use Rattle.std.proofs.lemmas.Bool.Decides.{nat_tests}
 use Rattle.account.specs.Counter.{total, others}
-
-pub total-none : (f : ℕ → ℕ) → total 0 f ≡ 0
-unfolding total
-total-none f = refl
-
-pub total_more : (n : ℕ) (f : ℕ → ℕ) → total (n + 1) f ≡ total n f + f (n + 1)
-unfolding total
-total_more n f = rw add-one refl
 
 pub total-same : (n : ℕ) (f g : ℕ → ℕ) → ((k : ℕ) → 1 ≤ k → k ≤ n → g k ≡ f k) → total n g ≡ total n f
 unfolding total
@@ -80,15 +74,20 @@ pub others-one : (j : ℕ) (f g : ℕ → ℕ) (i d : ℕ) → 1 ≤ i → i ≤
 others-one j f g i d l m ne here there =
     total-one 8 (λ k. cond (eqb k j) 0 (f k)) (λ k. cond (eqb k j) 0 (g k)) i d l m (more_there i j (f i) (g i) d ne here) (λ k apart. left_out k j (f k) (g k) (λ _. there k apart))
 
--- a loop that has summed f 1 to f i, each of them at most b
-abbrev pub Summing : ℕ → (ℕ → ℕ) → ℕ → ℕ → Type 0
-Summing b f i sum = (sum ≡ total i f) × (sum ≤ i * b)
+-- a sum over the first n items of a list
+listed : {X : Type 0} (g : X → ℕ) (d : X) (xs : List X) (n : ℕ) → n ≤ length xs → sum_by g (take n xs) ≡ total n (λ k. g (get_or xs (k - 1) d))
+unfolding total
+listed g d xs zero h = refl
+listed g d xs (suc n) h =
+    let one : suc n ≡ n + 1 = omega arith in
+    let back : suc n - 1 ≡ n = omega arith in
+    let step = ap (λ (m : ℕ). sum_by g (take m xs)) one ∙ sum_by_more g xs n d (omega arith) in
+    omega (arith, step, listed g d xs n (omega arith), ap (λ (k : ℕ). g (get_or xs k d)) back)
 
-pub summing_none : (b : ℕ) (f : ℕ → ℕ) → Summing b f 0 0
-summing_none b f = (sym (total-none f), omega arith)
+pub sum-listed : {X : Type 0} (g : X → ℕ) (d : X) (xs : List X) (n : ℕ) → length xs ≡ n → sum_by g xs ≡ total n (λ k. g (get_or xs (k - 1) d))
+sum-listed g d xs n l = ap (sum_by g) (sym (take_all n xs (omega (arith, l)))) ∙ listed g d xs n (omega (arith, l))
 
-pub summing_more : (b : ℕ) (f : ℕ → ℕ) (i sum v : ℕ) → Summing b f i sum → v ≡ f (i + 1) → v ≤ b → Summing b f (i + 1) (sum + v)
-summing_more b f i sum v s e l = (omega (arith, total_more i f, s.0, e), omega (arith, s.1, l, add-mul i 1 b))
-
-pub summing_all : (b : ℕ) (f : ℕ → ℕ) (i sum : ℕ) → Summing b f i sum → i ≡ 8 → (sum ≡ total 8 f) × (sum ≤ 8 * b)
-summing_all b f i sum s e = (s.0 ∙ ap (λ n. total n f) e, subst (λ (n : ℕ). sum ≤ n * b) e s.1)
+pub total_most : (n b : ℕ) (f : ℕ → ℕ) → ((k : ℕ) → 1 ≤ k → k ≤ n → f k ≤ b) → total n f ≤ n * b
+unfolding total
+total_most zero b f h = omega arith
+total_most (suc n) b f h = omega (arith, h (suc n) (omega arith) (omega arith), total_most n b f (λ k a c. h k a (omega arith)), add-mul n 1 b)

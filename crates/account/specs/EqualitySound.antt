@@ -20,9 +20,6 @@ tally_decides t u =
     (λ p. (ap (λ (v : Tally). v.reserve) p, (ap (λ (v : Tally). v.rows) p, ap (λ (v : Tally). v.issued) p)))
     (Decides-and _ _ (unsigned_Decides t.reserve u.reserve) (Decides-and _ _ (pointwise_decides row_decides t.rows u.rows) (row_decides t.issued u.issued)))
 
-pub row_laws : IsPartialEquivalence row_eq
-row_laws = partial_equiv_from_equiv (decided row_eq row_decides)
-
 pub tally_laws : IsPartialEquivalence tally_eq
 tally_laws = partial_equiv_from_equiv (decided tally_eq tally_decides)
 

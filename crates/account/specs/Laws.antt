@@ -1,5 +1,5 @@
 -- What holds of every account.
-use Rattle.std.specs.Prelude.{◌≡◌, ℕ, zero, suc, ◌≤◌, true, ◌∷◌, ℤ, pos, ◌+ℤ◌, ◌-ℤ◌, ◌≤ℤ◌, Some, Ok}
+use Rattle.std.specs.Prelude.{◌≡◌, ℕ, zero, suc, ◌≤◌, Bool, true, Decides, ◌∷◌, ℤ, pos, ◌+ℤ◌, ◌-ℤ◌, ◌≤ℤ◌, Some, Ok}
 use Rattle.account.specs.Accounts.{checked, fresh_answer}
 use Rattle.account.specs.Bookings.{range_check, booking_checks, booking}
 use Rattle.account.specs.Counter.{added, used}
@@ -38,6 +38,10 @@ pub record SameNumbers (t u : Tally) : Type 0 where
 
 abbrev pub EqualByNumbers : Type 0
 EqualByNumbers = (a b : Account) → (a ≡ b → SameNumbers a.tally b.tally) × (SameNumbers a.tally b.tally → a ≡ b)
+
+-- a test tells whether two values are one
+abbrev pub TellsEqual : {X : Type 0} → (X → X → Bool) → Type 0
+TellsEqual {X} test = (x y : X) → Decides (test x y) (x ≡ y)
 
 -- JOINS
 

@@ -1,5 +1,6 @@
 pub mod Refusals
 pub mod Numbers
+pub mod Parts
 pub mod Counter
 pub mod Tallies
 pub mod Lawful

@@ -2,6 +2,7 @@
 ghost use Rattle.std.specs.Prelude.{◌≡◌};
 ghost use Rattle.account.specs.Bookings.{amount_of, in_range};
 
+use crate::depot_number::DepotNumber;
 use crate::tally::LIMIT;
 
 // Plain numbers: whether they are in range is asked when they are booked.
@@ -20,9 +21,9 @@ impl Booking {
         ensures { result ≡ amount_of self }
     {
         match self {
-            Booking::TakeIn { amount } => amount,
-            Booking::Issue { amount } => amount,
-            Booking::HandOver { amount, .. } => amount,
+            Booking::TakeIn { amount }
+            | Booking::Issue { amount }
+            | Booking::HandOver { amount, .. } => amount,
         }
     }
 
@@ -31,9 +32,9 @@ impl Booking {
         ensures { result ≡ in_range self }
     {
         let amount = self.amount();
-        let ranged = 1 <= amount && amount <= LIMIT;
+        let ranged = (1..=LIMIT).contains(&amount);
         match self {
-            Booking::HandOver { to, .. } => ranged && 1 <= to && to <= 8,
+            Booking::HandOver { to, .. } => ranged && DepotNumber::try_from(to).is_ok(),
             _ => ranged,
         }
     }

@@ -2,14 +2,14 @@
 ghost use Rattle.std.specs.Prelude.{◌≡◌, ◌+◌, ◌≤◌, true};
 ghost use Rattle.account.specs.Counter.{decrement, transfer};
 ghost use Rattle.account.specs.Lawful.{shaped};
-ghost use Rattle.account.specs.Tallies.{limit, count, handed, issued_by, counter_of, tally_of, row_raised};
+ghost use Rattle.account.specs.Tallies.{limit, count, row, handed, issued_by, counter_of, tally_of, row_raised};
 
 use crate::depot_number::DepotNumber;
 use crate::tally::{Row, Tally};
 
 impl Row {
     // The count for a depot.
-    fn count(self, depot: DepotNumber) -> u32
+    pub(crate) fn count(self, depot: DepotNumber) -> u32
         ensures { result ≡ count self depot.number }
     {
         self.counts[depot.index()]
@@ -27,11 +27,18 @@ impl Row {
 }
 
 impl Tally {
+    // What a depot handed over and took in.
+    pub(crate) fn row(&self, depot: DepotNumber) -> Row
+        ensures { result ≡ row self.now depot.number }
+    {
+        self.rows[depot.index()]
+    }
+
     // What a depot handed over to another, or took in itself.
     pub(crate) fn handed(&self, from: DepotNumber, to: DepotNumber) -> u32
         ensures { result ≡ handed self.now from.number to.number }
     {
-        self.rows[from.index()].count(to)
+        self.row(from).count(to)
     }
 
     // What a depot issued.
@@ -48,13 +55,8 @@ impl Tally {
         ensures { result ≡ tally_of (transfer (counter_of self.now) from.number to.number amount) }
     {
         let mut rows = self.rows;
-        let row = rows[from.index()];
-        rows[from.index()] = row.raised(to, amount);
-        Tally {
-            reserve: self.reserve,
-            rows,
-            issued: self.issued,
-        }
+        rows[from.index()] = self.row(from).raised(to, amount);
+        Tally { rows, ..*self }
     }
 
     // What a depot issued is more by an amount.
@@ -64,9 +66,8 @@ impl Tally {
         ensures { result ≡ tally_of (decrement (counter_of self.now) depot.number amount) }
     {
         Tally {
-            reserve: self.reserve,
-            rows: self.rows,
             issued: self.issued.raised(depot, amount),
+            ..*self
         }
     }
 }

@@ -1,9 +1,10 @@
 // The greater of each pair of counts, and how many counts rose.
-ghost use Rattle.std.specs.Prelude.{◌≡◌, ◌≤◌, max};
+ghost use Rattle.std.specs.Prelude.{◌≡◌, max};
 ghost use Rattle.account.specs.Counter.{total};
 ghost use Rattle.account.specs.Joins.{joined, rose, risen};
-ghost use Rattle.account.specs.Tallies.{count, row_of};
+ghost use Rattle.account.specs.Tallies.{count, handed, row_of};
 
+use crate::depot_number::DepotNumber;
 use crate::tally::{Row, Tally};
 
 impl Row {
@@ -11,23 +12,27 @@ impl Row {
     fn greater(self, other: Row) -> Row
         ensures { result ≡ row_of (λ j. max (count self j) (count other j)) }
     {
-        let mut counts = self.counts;
-        for i in 0..8 {
-            counts[i] = self.counts[i].max(other.counts[i]);
+        Row {
+            counts: DepotNumber::all().map(|depot| self.count(depot).max(other.count(depot))),
         }
-        Row { counts }
+    }
+
+    // 1 for each count that is higher in the other row, and 0 for the others.
+    fn rises(self, after: Row) -> Row
+        ensures { result ≡ row_of (λ j. rose (count self j) (count after j)) }
+    {
+        Row {
+            counts: DepotNumber::all().map(|depot| u32::from(
+                self.count(depot) < after.count(depot),
+            )),
+        }
     }
 
     // How many counts are higher in the other row.
     fn risen(self, after: Row) -> u32
-        ensures sum { result ≡ total 8 (λ j. rose (count self j) (count after j)) }
-        ensures bound { result ≤ 8 }
+        ensures { result ≡ total 8 (λ j. rose (count self j) (count after j)) }
     {
-        let mut n = 0;
-        for i in 0..8 {
-            n += u32::from(self.counts[i] < after.counts[i]);
-        }
-        n
+        self.rises(after).total() as u32
     }
 }
 
@@ -36,27 +41,26 @@ impl Tally {
     pub(crate) fn joined(&self, other: &Tally) -> Tally
         ensures { result ≡ joined self.now other.now }
     {
-        let mut rows = self.rows;
-        for i in 0..8 {
-            rows[i] = self.rows[i].greater(other.rows[i]);
-        }
         Tally {
             reserve: self.reserve,
-            rows,
+            rows: DepotNumber::all().map(|depot| self.row(depot).greater(other.row(depot))),
             issued: self.issued.greater(other.issued),
         }
     }
-}
 
-impl Tally {
+    // How many counts of each row are higher in the other tally.
+    fn rises(&self, after: &Tally) -> Row
+        ensures { result ≡ row_of (λ i. total 8 (λ j. rose (handed self.now i j) (handed after.now i j))) }
+    {
+        Row {
+            counts: DepotNumber::all().map(|depot| self.row(depot).risen(after.row(depot))),
+        }
+    }
+
     // How many of the 72 counts are higher in the other tally.
     pub(crate) fn risen(&self, after: &Tally) -> u32
         ensures { result ≡ risen self.now after.now }
     {
-        let mut n = 0;
-        for i in 0..8 {
-            n += self.rows[i].risen(after.rows[i]);
-        }
-        n + self.issued.risen(after.issued)
+        self.rises(after).total() as u32 + self.issued.risen(after.issued)
     }
 }

@@ -2,43 +2,60 @@
 ghost use Rattle.std.specs.Prelude.{◌≡◌};
 ghost use Rattle.account.specs.Refusals.{number_of};
 
-use std::fmt;
+use thiserror::Error;
 
-#[derive(Clone, Copy, PartialEq, Eq, Debug)]
+#[derive(Clone, Copy, PartialEq, Eq, Debug, Error)]
 pub enum Refusal {
     // 1
+    #[error("an argument is outside its range")]
     OutOfRange,
     // 2: the place of the first byte that is missing or of the number that is cut off
+    #[error("the bytes end too early, at place {place}")]
     CutShort { place: usize },
     // 3: the place of the number at fault or of the first byte left over
+    #[error("a number is malformed or bytes are left over, at place {place}")]
     Malformed { place: usize },
     // 4: the place of the item's kind
+    #[error("the item at place {place} is of another kind")]
     OtherKind { place: usize },
     // 5
+    #[error("the part has no account here")]
     NoAccount,
     // 6
+    #[error("the part has an account already")]
     AccountExists,
     // 7
+    #[error("the till has a draft")]
     TillTaken,
     // 8
+    #[error("the slip is not that of a draft at this depot")]
     NoDraft,
     // 9
+    #[error("a depot hands nothing over to itself")]
     OwnDepot,
     // 10
+    #[error("more than the own free stock in the draft")]
     NotEnoughFree,
     // 11
+    #[error("the reserve is not the stored one")]
     OtherReserve,
     // 12
+    #[error("the counts contradict the books")]
     Contradiction,
     // 13
+    #[error("a count or a version would pass 1,000,000,000")]
     LimitPassed,
     // 14
+    #[error("the stored version is no longer the draft's")]
     VersionMoved,
     // 15: the layer of the store that refused
+    #[error("layer {layer} of the store takes no such put")]
     StoreRefused { layer: u32 },
     // 16
+    #[error("the bytes do not fit")]
     NoRoom,
     // 17
+    #[error("the line is none of the program's")]
     UnknownLine,
 }
 
@@ -65,39 +82,6 @@ impl Refusal {
             Refusal::StoreRefused { .. } => 15,
             Refusal::NoRoom => 16,
             Refusal::UnknownLine => 17,
-        }
-    }
-}
-
-impl fmt::Display for Refusal {
-    fn fmt<W: fmt::Write>(&self, f: &mut fmt::Formatter<W>) -> fmt::Result {
-        match *self {
-            Refusal::OutOfRange => write!(f, "an argument is outside its range"),
-            Refusal::CutShort { place } => write!(f, "the bytes end too early, at place {place}"),
-            Refusal::Malformed { place } => {
-                write!(
-                    f,
-                    "a number is malformed or bytes are left over, at place {place}"
-                )
-            }
-            Refusal::OtherKind { place } => {
-                write!(f, "the item at place {place} is of another kind")
-            }
-            Refusal::NoAccount => write!(f, "the part has no account here"),
-            Refusal::AccountExists => write!(f, "the part has an account already"),
-            Refusal::TillTaken => write!(f, "the till has a draft"),
-            Refusal::NoDraft => write!(f, "the slip is not that of a draft at this depot"),
-            Refusal::OwnDepot => write!(f, "a depot hands nothing over to itself"),
-            Refusal::NotEnoughFree => write!(f, "more than the own free stock in the draft"),
-            Refusal::OtherReserve => write!(f, "the reserve is not the stored one"),
-            Refusal::Contradiction => write!(f, "the counts contradict the books"),
-            Refusal::LimitPassed => write!(f, "a count or a version would pass 1,000,000,000"),
-            Refusal::VersionMoved => write!(f, "the stored version is no longer the draft's"),
-            Refusal::StoreRefused { layer } => {
-                write!(f, "layer {layer} of the store takes no such put")
-            }
-            Refusal::NoRoom => write!(f, "the bytes do not fit"),
-            Refusal::UnknownLine => write!(f, "the line is none of the program's"),
         }
     }
 }

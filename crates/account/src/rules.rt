@@ -12,12 +12,7 @@ impl Row {
         ensures tells { result ≡ within (count self) }
         ensures long { length self.counts ≡ 8 }
     {
-        for i in 0..8 {
-            if self.counts[i] > LIMIT {
-                return false;
-            }
-        }
-        true
+        self.counts.iter().all(|count| *count <= LIMIT)
     }
 }
 
@@ -26,25 +21,18 @@ impl Tally {
     pub(crate) fn ranged(&self) -> bool
         ensures { result ≡ (shaped self.now && ranged (counter_of self.now)) }
     {
-        for i in 0..8 {
-            let row = self.rows[i];
-            if !row.ranged() {
-                return false;
-            }
+        if self.reserve > LIMIT {
+            return false;
         }
-        self.reserve <= LIMIT && self.issued.ranged()
+        self.rows.iter().all(|row| row.ranged()) && self.issued.ranged()
     }
 
     // Is no free stock below 0?
     pub(crate) fn covered(&self) -> bool
         ensures { result ≡ covered (counter_of self.now) }
     {
-        for j in 0..8 {
-            let depot = DepotNumber::at(j);
-            if self.gave(depot) > self.had(depot) {
-                return false;
-            }
-        }
-        true
+        DepotNumber::all()
+            .iter()
+            .all(|depot| self.gave(*depot) <= self.had(*depot))
     }
 }

@@ -12,8 +12,7 @@ impl Account {
         ensures law { AdviceNamesTheFullest }
     {
         let mut best = None;
-        for i in 0..8 {
-            let depot = DepotNumber::at(i);
+        for depot in DepotNumber::all() {
             if self.serves(asking, amount, depot) && self.exceeds(depot, best) {
                 best = Some(depot);
             }
@@ -25,16 +24,13 @@ impl Account {
     fn serves(&self, asking: DepotNumber, amount: u32, depot: DepotNumber) -> bool
         ensures { result ≡ serves self.now asking.number amount depot.number }
     {
-        depot.number() != asking.number() && u64::from(amount) <= self.free(depot)
+        depot != asking && u64::from(amount) <= self.free(depot)
     }
 
     // Has a depot more free stock than the best so far?
     fn exceeds(&self, depot: DepotNumber, best: Option<DepotNumber>) -> bool
         ensures { result ≡ better self.now depot.number (number_if best) }
     {
-        match best {
-            Some(other) => self.free(other) < self.free(depot),
-            None => true,
-        }
+        best.is_none_or(|other| self.free(other) < self.free(depot))
     }
 }

@@ -63,13 +63,14 @@ impl Account {
                 self.issued(depot, amount)
             }
             Booking::HandOver { amount, to } => {
-                if to == depot.number() {
+                let to = DepotNumber::try_from(to)?;
+                if to == depot {
                     return Err(Refusal::OwnDepot);
                 }
                 if self.lacks(depot, amount) {
                     return Err(Refusal::NotEnoughFree);
                 }
-                self.handed(depot, DepotNumber::at(to as usize - 1), amount)
+                self.handed(depot, to, amount)
             }
         }
     }

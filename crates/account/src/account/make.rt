@@ -10,13 +10,11 @@ impl Tally {
     pub fn check(self) -> Option<Account>
         ensures { result ≡ checked self }
     {
-        if !self.ranged() {
-            return None;
+        if self.ranged() && self.covered() {
+            Some(Account { tally: self })
+        } else {
+            None
         }
-        if !self.covered() {
-            return None;
-        }
-        Some(Account { tally: self })
     }
 }
 

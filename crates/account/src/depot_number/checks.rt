@@ -1,19 +1,40 @@
 // Between plain numbers and depots' numbers.
 ghost use Rattle.std.specs.Prelude.{◌≡◌, ◌+◌, ◌-◌, ◌<◌};
-ghost use Rattle.account.specs.Numbers.{number_answer, number_in};
+ghost use Rattle.std.specs.List.{range_with_len};
+ghost use Rattle.account.specs.Numbers.{number_answer, number_in, numbers};
 
 use super::DepotNumber;
 use crate::refusal::Refusal;
 
-impl DepotNumber {
-    // The depot of this number, or refusal 1.
-    pub fn new(number: u32) -> Result<DepotNumber, Refusal>
-        ensures { number_in result ≡ number_answer number }
-    {
-        if number < 1 || number > 8 {
+// The depot of this number, or refusal 1.
+impl TryFrom<u32> for DepotNumber {
+    type Error = Refusal;
+
+    ghost try_from_gives = { λ n r. number_in r ≡ number_answer n };
+
+    fn try_from(number: u32) -> Result<DepotNumber, Refusal> {
+        if !(1..=8).contains(&number) {
             return Err(Refusal::OutOfRange);
         }
         Ok(DepotNumber { number })
+    }
+}
+
+impl DepotNumber {
+    // The eight depots, in the order of their numbers.
+    pub fn all() -> [DepotNumber; 8]
+        ensures { numbers result ≡ range_with_len 1 8 }
+    {
+        [
+            DepotNumber { number: 1 },
+            DepotNumber { number: 2 },
+            DepotNumber { number: 3 },
+            DepotNumber { number: 4 },
+            DepotNumber { number: 5 },
+            DepotNumber { number: 6 },
+            DepotNumber { number: 7 },
+            DepotNumber { number: 8 },
+        ]
     }
 
     pub fn number(self) -> u32
@@ -28,15 +49,5 @@ impl DepotNumber {
         ensures within { result < 8 }
     {
         self.number as usize - 1
-    }
-
-    // The depot whose count stands there.
-    pub(crate) fn at(index: usize) -> DepotNumber
-        requires { index < 8 }
-        ensures { result.number ≡ index + 1 }
-    {
-        DepotNumber {
-            number: index as u32 + 1,
-        }
     }
 }

@@ -1,13 +1,14 @@
-use Rattle.std.proofs.Common.{◌+◌, ◌-◌, sym, arith, rules}
-use Rattle.account.specs.Tallies.{count}
-use Rattle.account.proofs.Limits.{within-from, within_not}
-use Rattle.account.proofs.Places.{count_at}
+use Rattle.std.proofs.Common.{◌≡◌, true, false, leb, length, rules}
+use borrow.Author.Tests.{tests}
+use Rattle.std.proofs.lemmas.Iterator.{cases_from_all, YieldsList-from_slice}
+use Rattle.account.specs.Lawful.{within}
+use Rattle.account.specs.Tallies.{limit}
+use Rattle.account.proofs.Each.{each_by}
 use Rattle.account.proofs.tally.Row.ranged.Goals as goal
 
-pub returns-then-self-i-gt-LIMIT : goal.returns-then-self-i-gt-LIMIT
-returns-then-self-i-gt-LIMIT c =
-    record { tells = sym (within_not (count c.args.self) (c.loop-i.i + 1) (omega arith) (omega arith) (omega (arith, count_at c.args.self c.loop-i.i))); long = search rules }
-
-pub returns : goal.returns
-returns c =
-    record { tells = sym (within-from (count c.args.self) (λ k a b. c.loop-i.invariant.0 (k - 1) (omega arith))); long = c.loop-i.invariant.1 (omega arith) }
+pub returns-clause-tells : goal.returns-clause-tells
+unfolding within
+returns-clause-tells c =
+    let counts = c.args.self.counts in
+    let long : length counts ≡ 8 = search rules in
+    each_by (λ n. leb n limit) 0 counts 8 long _ (cases_from_all _ _ _ (λ n. leb n limit ≡ true) (λ n. leb n limit ≡ false) c.all.ensures.ran (YieldsList-from_slice counts cc) (λ x q k. search (rules, tests)) (λ x q k. search (rules, tests)))

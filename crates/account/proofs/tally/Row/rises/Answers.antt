@@ -1,0 +1,9 @@
+use Rattle.std.proofs.Common.{ap, rules}
+use Rattle.account.specs.Joins.{rose}
+use Rattle.account.specs.Tallies.{count}
+use Rattle.account.proofs.Depots.{mapped_is}
+use Rattle.account.proofs.tally.Row.rises.Goals as goal
+
+pub returns : goal.returns
+returns c =
+    ap (λ cs. record { counts = cs }) (mapped_is _ c.all.ensures _ _ _ (λ j. rose (count c.args.self j) (count c.args.after j)) 0 c.map.ensures.items (λ d y q k. search rules))

@@ -1,23 +1,25 @@
 -- Reading and writing of rows, tallies and account items fit each other.
-use Rattle.std.proofs.Common.{◌≡◌, ℕ, ◌+◌, ◌≤◌, true, eqb, leb, List, [], ◌++◌, length, take, drop, Ok, sym, refl, ap, ◌∙◌, subst, inl, inr, arith}
+use Rattle.std.proofs.Common.{◌≡◌, ℕ, ◌+◌, ◌≤◌, true, eqb, leb, List, [], ◌++◌, length, take, drop, Ok, sym, refl, ap, ◌∙◌, subst, arith}
 use Rattle.std.specs.List.{flat_map}
 use Rattle.std.proofs.ByRecursion.{All-take}
 use Rattle.std.proofs.lemmas.List.{append_assoc, append-nil, length-append, length-drop, length-take-le, drop-drop, drop-take, drop_all, take_at, take-append-drop}
-use Rattle.std.proofs.lemmas.Bool.{le-leb, eq-eqb, leb-true, eqb-true, cases_Bool, and_parts, and_from}
+use Rattle.std.proofs.lemmas.Bool.{le-leb, eq-eqb, leb-true, eqb-true, and_parts, and_from}
 use Rattle.account.specs.declared.refusal.Refusal.TheVariants.{CutShort, Malformed}
 use Rattle.account.specs.declared.tally.Row.{Row}
 use Rattle.account.specs.declared.tally.Tally.{Tally}
-use Rattle.items.specs.AccountItems.{row_bytes, tally_bytes, body_bytes, account_bytes, as_row, row_at, tally_at, part_ok, part_at, numbers_at, of_account, in_body, account_at, only_account, RowFits, TallyFits, ItemFits}
+use Rattle.account.specs.Parts.{part_ok}
+use Rattle.items.specs.AccountItems.{row_bytes, tally_bytes, body_bytes, account_bytes, as_row, row_at, tally_at, part_at, numbers_at, of_account, in_body, account_at, only_account, RowFits, TallyFits, ItemFits}
 use Rattle.items.specs.Items.{kind_of, kind_at, length_at, whole_body, body_at}
 use Rattle.numbers.specs.Numbers.{NumberFits, number_bytes, number_at}
 use Rattle.numbers.specs.Reading.{and_then, many, ReadsBack, ReadsOnly, Stand, Bytes}
 use Rattle.items.specs.declared.item.AccountItem.{AccountItem}
 use Rattle.items.specs.declared.item.Body.{Body}
 use Rattle.items.specs.declared.item.Kind.{Kind}
-use Rattle.items.specs.declared.item.Kind.TheVariants.{Account, Remark}
+use Rattle.items.specs.declared.item.Kind.TheVariants.{Account}
+use Rattle.items.proofs.KindCodec.{account_named}
 use Rattle.numbers.proofs.Codecs.{number_back, number_only, many_back, many_only}
 use Rattle.items.proofs.Lengths.{body-most, body_some, account-length}
-use Rattle.numbers.proofs.Stands.{behind, stand_join, then_ok, then_inv, ok_same, passed, never}
+use Rattle.numbers.proofs.Stands.{behind, stand_join, then_ok, then_inv, ok_same, passed}
 
 -- ROWS
 
@@ -161,20 +163,6 @@ module _ (bs rest : List ℕ) (p : ℕ) (i : AccountItem) (fits : ItemFits i) (s
 pub account_back : ReadsBack account_at account_bytes ItemFits
 account_back bs rest p i fits stands = item_back bs rest p i fits stands
 
--- the kind of an account is the number 1
-kind_only : (p : ℕ) (k : ℕ × ℕ) (g : Kind × ℕ) (q : ℕ) → kind_of p k ≡ Ok g → of_account p g ≡ Ok q → (k.0 ≡ 1) × (k.1 ≡ q)
-kind_only p k g q h o =
-    elim (cases_Bool (eqb k.0 1)) [
-      | inl t ↦
-          let e : (Account, k.1) ≡ g = ok_same _ _ (rw t at h) in
-          let P : Kind × ℕ → Type 0 = λ x. of_account p x ≡ Ok q in
-          (eqb-true k.0 1 t, ok_same _ _ (subst P (sym e) o))
-      | inr t ↦
-          let e = passed (eqb k.0 2) (Remark, k.1) g (Malformed p) (rw t at h) in
-          let P : Kind × ℕ → Type 0 = λ x. of_account p x ≡ Ok q in
-          absurd (never q _ (subst P (sym e.1) o))
-    ]
-
 -- what stands in the front of some bytes stands in them
 stand_front : (bs : List ℕ) (p end : ℕ) (x : List ℕ) → end ≤ length bs → Stand (take end bs) p x end → Stand bs p x end
 stand_front bs p end x within h =
@@ -213,7 +201,7 @@ module _ (bs : List ℕ) (p : ℕ) (all : Bytes bs) where
 
   from-kind : (k : ℕ × ℕ) (g : Kind × ℕ) (n q : ℕ) (i : AccountItem) → number_at bs p ≡ Ok k → kind_of p k ≡ Ok g → of_account p g ≡ Ok n → and_then (body_at bs Account n) (in_body bs) ≡ Ok (i, q) → ItemFits i × Stand bs p (account_bytes i) q
   from-kind k g n q i here kind account h =
-      let one = kind_only p k g n kind account in
+      let one = account_named p k g n kind account in
       let b = then_inv (body_at bs Account n) (in_body bs) (i, q) h in
       let l = then_inv (length_at Account bs n) (whole_body bs) b.0 b.1 in
       let r = then_inv (number_at bs n) _ l.0 l.1 in

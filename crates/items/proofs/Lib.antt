@@ -1,4 +1,5 @@
 pub mod Many
+pub mod KindCodec
 pub mod Lengths
 pub mod AccountCodec
 pub mod AccountFits

@@ -2,14 +2,11 @@
 use Rattle.std.proofs.Common.{◌≡◌, ℕ, zero, suc, ◌+◌, ◌-◌, ◌<◌, ◌≤◌, false, ltb, List, [], ◌∷◌, ◌++◌, length, get_or, take, drop, Some, sym, ap, ◌∙◌, arith}
 use borrow.Rule.Slice.PartMut.{put_mid}
 use Rattle.std.specs.List.{flat_map}
-use Rattle.std.proofs.lemmas.List.{append_assoc, append-nil, length-append, length-take-le, length-drop, take_at, drop_at, drop-drop, drop_all, take-append-drop, take_more, flat_map_more}
+use Rattle.std.proofs.lemmas.List.{append_assoc, append-nil, length-append, length-take-le, length-drop, take_at, drop_at, drop-drop, drop_all, take_more, flat_map_more}
 use Rattle.std.proofs.lemmas.Slice.{between_to_end}
 use Rattle.std.proofs.lemmas.Bool.{le-ltb}
 use Rattle.numbers.specs.Numbers.{number_bytes, room_for, written}
 use Rattle.items.specs.Writing.{put}
-
-pub put-none : (xs : List ℕ) (p : ℕ) → put xs p [] ≡ xs
-put-none xs p = let e : p + 0 ≡ p = omega arith in rw e (take-append-drop p xs)
 
 -- bytes written right behind others
 pub put-put : (xs : List ℕ) (p : ℕ) (a b : List ℕ) → p ≤ length xs → put (put xs p a) (p + length a) b ≡ put xs p (a ++ b)
@@ -58,9 +55,6 @@ module _ {X : Type 0} (bytes : X → List ℕ) where
   pub record Wrote (xs ys : List ℕ) (p : ℕ) (vs : List X) (i q : ℕ) : Type 0 where
     pub next : q ≡ p + length (flat_map bytes (take i vs))
     pub left : ys ≡ put xs p (flat_map bytes (take i vs))
-
-  pub wrote_none : (xs : List ℕ) (p : ℕ) (vs : List X) → Wrote xs xs p vs 0 p
-  wrote_none xs p vs = record { next = omega arith; left = sym (put-none xs p) }
 
   module _ (xs ys : List ℕ) (p : ℕ) (vs : List X) (i q : ℕ) (fits : p + length (flat_map bytes vs) ≤ length xs) (so_far : Wrote xs ys p vs i q) where
     pub wrote_room : (d : X) → i < length vs → q + length (bytes (get_or vs i d)) ≤ length ys

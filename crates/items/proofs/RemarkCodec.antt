@@ -1,7 +1,7 @@
 -- Reading and writing of remarks fit each other.
-use Rattle.std.proofs.Common.{◌≡◌, ℕ, ◌+◌, ◌≤◌, false, eqb, leb, List, ◌++◌, length, drop, Ok, sym, refl, ap, ◌∙◌, subst, inl, inr, arith}
+use Rattle.std.proofs.Common.{◌≡◌, ℕ, ◌+◌, ◌≤◌, false, eqb, leb, List, ◌++◌, length, drop, Ok, sym, refl, ap, ◌∙◌, subst, arith}
 use Rattle.std.proofs.lemmas.List.{length-append, length-drop}
-use Rattle.std.proofs.lemmas.Bool.{cases_Bool, le-leb, le-ltb, leb-true, ltb-false, eq-eqb, eqb-true}
+use Rattle.std.proofs.lemmas.Bool.{le-leb, le-ltb, leb-true, ltb-false, eq-eqb, eqb-true}
 use Rattle.account.specs.declared.refusal.Refusal.TheVariants.{CutShort, Malformed}
 use Rattle.items.specs.Items.{item_bytes, kind_of, kind_at, length_at, whole_body, body_at}
 use Rattle.items.specs.Laws.{RemarksReadBack, RemarksReadOnly}
@@ -10,10 +10,10 @@ use Rattle.items.specs.Parcels.{of_remark, text_in}
 use Rattle.numbers.specs.Reading.{Bytes}
 use Rattle.items.specs.Writing.{too_long}
 use Rattle.items.specs.declared.item.Body.{Body}
-use Rattle.items.specs.declared.item.Kind.{Kind}
-use Rattle.items.specs.declared.item.Kind.TheVariants.{Account, Remark}
+use Rattle.items.specs.declared.item.Kind.TheVariants.{Remark}
+use Rattle.items.proofs.KindCodec.{remark_named}
 use Rattle.numbers.proofs.Codecs.{number_back, number_only}
-use Rattle.numbers.proofs.Stands.{behind, then_ok, then_inv, ok_same, passed, never}
+use Rattle.numbers.proofs.Stands.{behind, then_ok, then_inv, passed}
 
 pub remarks_read_back : RemarksReadBack
 remarks_read_back text short =
@@ -30,17 +30,6 @@ remarks_read_back text short =
     let lens : length_at Remark bs p₁ ≡ Ok (len, p₂) = then_ok _ (number_back bs _ p₁ len (omega arith) s₁) (rw (le-leb len 200 few)) in
     let body : body_at bs Remark p₁ ≡ Ok (record { from = p₂; end = p₂ + len }) = then_ok _ lens (rw (le-leb (p₂ + len) (length bs) (omega arith))) in
     then_ok _ kind (then_ok _ body (rw (eq-eqb (p₂ + len) (length bs) whole) (ap (λ (x : List ℕ). Ok x) s₂)))
-
--- the kind of a remark is the number 2
-kind_only : (p : ℕ) (k : ℕ × ℕ) (g : Kind × ℕ) (q : ℕ) → kind_of p k ≡ Ok g → of_remark p g ≡ Ok q → (k.0 ≡ 2) × (k.1 ≡ q)
-kind_only p k g q h o =
-    let P : Kind × ℕ → Type 0 = λ x. of_remark p x ≡ Ok q in
-    elim (cases_Bool (eqb k.0 1)) [
-      | inl t ↦ let e : (Account, k.1) ≡ g = ok_same _ _ (rw t at h) in absurd (never q _ (subst P (sym e) o))
-      | inr t ↦
-          let e = passed (eqb k.0 2) (Remark, k.1) g (Malformed p) (rw t at h) in
-          (eqb-true k.0 2 e.0, ok_same _ _ (subst P (sym e.1) o))
-    ]
 
 module _ (bs text : List ℕ) (all : Bytes bs) where
   from-body : (k l : ℕ × ℕ) (b : Body) → number_at bs 0 ≡ Ok k → k.0 ≡ 2 → number_at bs k.1 ≡ Ok l → l.0 ≤ 200 → whole_body bs l ≡ Ok b → text_in bs b ≡ Ok text → (too_long text ≡ false) × (bs ≡ item_bytes Remark text)
@@ -65,7 +54,7 @@ remarks_read_only bs text all h =
     let b = then_inv (body_at bs Remark o.0) (text_in bs) text o.2 in
     let l = then_inv (length_at Remark bs o.0) (whole_body bs) b.0 b.1 in
     let r = then_inv (number_at bs o.0) _ l.0 l.1 in
-    let kind = kind_only 0 k.0 g.0 o.0 k.2 o.1 in
+    let kind = remark_named 0 k.0 g.0 o.0 k.2 o.1 in
     let small = passed (leb r.0.0 200) r.0 l.0 (Malformed o.0) r.2 in
     let lens : number_at bs k.0.1 ≡ Ok l.0 = ap (number_at bs) kind.1 ∙ r.1 ∙ ap (λ (y : ℕ × ℕ). Ok y) small.1 in
     let few : l.0.0 ≤ 200 = omega (arith, leb-true r.0.0 200 small.0, ap (λ (y : ℕ × ℕ). y.0) small.1) in

@@ -1,5 +1,5 @@
 -- What the writers of items answer and leave.
-use Rattle.std.proofs.Common.{◌≡◌, ℕ, ◌+◌, ◌-◌, ◌<◌, ◌≤◌, Bool, false, not, List, [], ◌∷◌, ◌++◌, length, Ok, Err, Result, sym, refl, ap, ◌∙◌, subst, arith}
+use Rattle.std.proofs.Common.{◌≡◌, ℕ, ◌+◌, ◌-◌, ◌<◌, ◌≤◌, Bool, true, false, not, List, [], ◌∷◌, ◌++◌, length, Ok, Err, Result, sym, refl, ap, ◌∙◌, subst, arith}
 use Rattle.std.specs.List.{flat_map}
 use Rattle.std.proofs.lemmas.List.{append_assoc, append-nil, length-append}
 use Rattle.std.proofs.lemmas.Bool.{le-ltb, lt-ltb, not_from_true}
@@ -7,14 +7,14 @@ use Rattle.account.specs.declared.account.Account.{Account}
 use Rattle.account.specs.declared.tally.Tally.{Tally}
 use Rattle.account.specs.declared.refusal.Refusal.{Refusal}
 use Rattle.account.specs.declared.refusal.Refusal.TheVariants.{NoRoom}
-use Rattle.items.specs.AccountItems.{row_bytes, body_bytes, account_bytes, part_ok}
+use Rattle.account.specs.Parts.{part_ok}
+use Rattle.items.specs.AccountItems.{row_bytes, body_bytes, account_bytes}
 use Rattle.items.specs.Items.{item_bytes, number_of}
 use Rattle.numbers.specs.Numbers.{number_bytes}
 use Rattle.items.specs.Writing.{put, write_answer, write_left, item_of, too_long}
 use Rattle.items.specs.declared.item.AccountItem.{AccountItem}
 use Rattle.items.specs.declared.item.Kind.{Kind}
 use Rattle.items.specs.declared.item.Kind.TheVariants as kinds
-use Rattle.items.proofs.AccountCodec.{part_fits}
 use Rattle.items.proofs.Puts.{put_next}
 
 -- a writer that answers r and leaves ys of the buffer xs
@@ -83,7 +83,7 @@ module _ (i : AccountItem) (n r u h : ℕ) (fronts : n ≡ length (front i)) (ro
         abcd ∙ ap (put v p) (append_assoc (a ++ b) c d ∙ append_assoc a b (c ++ d) ∙ ap (λ (k : List ℕ). a ++ k) (sym (body_parts i)) ∙ sym account_parts)
 
 -- what writing an account comes to; t is the account's tally
-module _ (part : ℕ) (least : 1 ≤ part) (most : part ≤ 100000) (a : Account) (t : Tally) (same : t ≡ a.tally) (v : List ℕ) (p : ℕ) (inside : p ≤ length v)
+module _ (part : ℕ) (ok : part_ok part ≡ true) (a : Account) (t : Tally) (same : t ≡ a.tally) (v : List ℕ) (p : ℕ) (inside : p ≤ length v)
     (n r u h : ℕ) (fronts : n ≡ length (front (record { part = part; tally = t }))) (rows : r ≡ length (flat_map row_bytes t.rows)) (issues : u ≡ length (row_bytes t.issued))
     (heads : h ≡ length (head kinds.Account (n + r + u))) where
   abbrev item : AccountItem
@@ -93,7 +93,7 @@ module _ (part : ℕ) (least : 1 ≤ part) (most : part ≤ 100000) (a : Account
   Written answer left = Writes (not (part_ok part)) v p (account_bytes (item_of part a)) answer left
 
   right : not (part_ok part) ≡ false
-  right = not_from_true (part_ok part) (part_fits part least most)
+  right = not_from_true (part_ok part) ok
 
   whole_length : h + (n + r + u) ≡ length (account_bytes item)
   whole_length = account-len item n r u h fronts rows issues heads
@@ -126,9 +126,6 @@ module _ (text v : List ℕ) (p : ℕ) (short : length text ≤ 200) (inside : p
 
   remark-length : h + length text ≡ length (item_bytes kinds.Remark text)
   remark-length = omega (arith, ap length (item_parts kinds.Remark text), length-append (head kinds.Remark (length text)) text)
-
-  pub remark_full : length v - p < h + length text → RemarkWritten (Err NoRoom) v
-  remark_full full = writes_full (too_long text) v p (item_bytes kinds.Remark text) short_enough inside (omega (arith, remark-length))
 
   pub remark_whole : h + length text ≤ length v - p → (w z : List ℕ) (q : ℕ) → (q ≡ p + length (head kinds.Remark (length text))) → w ≡ put v p (head kinds.Remark (length text)) → z ≡ put w q text → RemarkWritten (Ok (h + length text)) z
   remark_whole room w z q next one two =

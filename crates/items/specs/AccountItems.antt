@@ -1,6 +1,7 @@
 -- The item of an account: its body is the part, the reserve, the eight rows, and the goods issued.
-use Rattle.std.specs.Prelude.{◌≡◌, ℕ, ◌≤◌, Bool, cond, ◌&&◌, List, ◌++◌, length, take, Ok, Err, Result, ◌==◌, nat_le}
+use Rattle.std.specs.Prelude.{◌≡◌, ℕ, ◌≤◌, cond, List, ◌++◌, length, take, Ok, Err, Result, ◌==◌}
 use Rattle.std.specs.List.{flat_map, AllByRecursion}
+use Rattle.account.specs.Parts.{last_part, part_ok}
 use Rattle.account.specs.declared.refusal.Refusal.{Refusal}
 use Rattle.account.specs.declared.refusal.Refusal.TheVariants.{Malformed, OtherKind}
 use Rattle.account.specs.declared.tally.Row.{Row}
@@ -42,10 +43,6 @@ tally_at bs p =
     and_then (number_at bs p) (λ m. and_then (many row_at 8 bs m.1) (λ r. and_then (row_at bs r.1)
     (λ u. Ok (record { reserve = m.0; rows = r.0; issued = u.0 }, u.1))))
 
--- a part is numbered 1 to 100,000
-abbrev pub part_ok : ℕ → Bool
-part_ok n = nat_le 1 n && nat_le n 100000
-
 abbrev pub part_at : Reading ℕ
 part_at bs p = and_then (number_at bs p) (λ g. cond (part_ok g.0) (Ok g) (Err (Malformed p)))
 
@@ -81,5 +78,5 @@ pub record TallyFits (t : Tally) : Type 0 where
 
 pub record ItemFits (i : AccountItem) : Type 0 where
   pub least : 1 ≤ i.part
-  pub most : i.part ≤ 100000
+  pub most : i.part ≤ last_part
   pub tally : TallyFits i.tally

@@ -1,5 +1,5 @@
 -- An item is a kind, the byte count of its body, and the body.
-use Rattle.std.specs.Prelude.{ℕ, ◌+◌, cond, List, ◌++◌, length, Ok, Err, Result, ◌==◌, nat_le}
+use Rattle.std.specs.Prelude.{ℕ, ◌+◌, cond, List, ◌++◌, length, Some, None, Ok, Err, Option, Result, ◌==◌, nat_le}
 use Rattle.account.specs.Tallies.{limit}
 use Rattle.account.specs.declared.refusal.Refusal.{Refusal}
 use Rattle.account.specs.declared.refusal.Refusal.TheVariants.{CutShort, Malformed}
@@ -14,6 +14,10 @@ abbrev pub number_of : Kind → ℕ
 number_of Account = 1
 number_of Remark = 2
 
+-- the kind that has a number
+abbrev pub kind_numbered : ℕ → Option Kind
+kind_numbered n = cond (n == number_of Account) (Some Account) (cond (n == number_of Remark) (Some Remark) None)
+
 -- the most bytes that a body may have
 abbrev pub most_bytes : Kind → ℕ
 most_bytes Account = limit
@@ -26,9 +30,9 @@ item_bytes kind body = number_bytes (number_of kind) ++ (number_bytes (length bo
 
 -- READING
 
--- another kind than these is out of range
+-- another number than these is malformed
 abbrev pub kind_of : ℕ → ℕ × ℕ → Result (Kind × ℕ) Refusal
-kind_of p k = cond (k.0 == 1) (Ok (Account, k.1)) (cond (k.0 == 2) (Ok (Remark, k.1)) (Err (Malformed p)))
+kind_of p k = elim (kind_numbered k.0) [ Some kind ↦ Ok (kind, k.1) | None ↦ Err (Malformed p) ]
 
 -- the kind at a place
 abbrev pub kind_at : Reading Kind

@@ -1,7 +1,8 @@
 -- What is written reads back, and only what writing gives is read.
 use Rattle.std.specs.Prelude.{◌≡◌, ℕ, ◌≤◌, true, false, List, length, Ok}
 use Rattle.account.specs.declared.account.Account.{Account}
-use Rattle.items.specs.AccountItems.{account_bytes, account_at, only_account, part_ok, ItemFits}
+use Rattle.account.specs.Parts.{part_ok}
+use Rattle.items.specs.AccountItems.{account_bytes, account_at, only_account, ItemFits}
 use Rattle.items.specs.Items.{item_bytes}
 use Rattle.items.specs.Parcels.{only_remark}
 use Rattle.numbers.specs.Reading.{ReadsBack, ReadsOnly, Bytes}

@@ -4,7 +4,8 @@ use Rattle.account.specs.Refusals.{Check, refuse, unless, by_answer}
 use Rattle.account.specs.declared.account.Account.{Account}
 use Rattle.account.specs.declared.refusal.Refusal.{Refusal}
 use Rattle.account.specs.declared.refusal.Refusal.TheVariants.{OutOfRange, NoRoom}
-use Rattle.items.specs.AccountItems.{account_bytes, part_ok}
+use Rattle.account.specs.Parts.{part_ok}
+use Rattle.items.specs.AccountItems.{account_bytes}
 use Rattle.items.specs.Items.{item_bytes, most_bytes}
 use Rattle.items.specs.declared.item.AccountItem.{AccountItem}
 use Rattle.items.specs.declared.item.Kind.TheVariants.{Remark}

@@ -1,13 +1,11 @@
 // What stands at the front of an item: its kind and the byte count of its body.
 ghost use Rattle.std.specs.Prelude.{◌≡◌};
-ghost use Rattle.items.specs.Items.{kind_at, most_bytes, length_at, body_at};
+ghost use Rattle.std.specs.Result.{result_ok};
+ghost use Rattle.items.specs.Items.{number_of, kind_numbered, kind_at, most_bytes, length_at, body_at};
 
 use account::refusal::Refusal;
 use account::tally::{LIMIT, Tally};
 use numbers::number::read_number;
-
-// The greatest part.
-pub const LAST_PART: u32 = 100_000;
 
 // The most bytes of an account item: kind 1, length 2, part 3, and 5 for the reserve and each of 72 counts.
 pub const LONGEST_ACCOUNT: usize = 371;
@@ -15,13 +13,15 @@ pub const LONGEST_ACCOUNT: usize = 371;
 // The most bytes of a remark.
 pub const LONGEST_REMARK: u32 = 200;
 
-#[derive(Clone, Copy)]
+#[derive(Clone, Copy, PartialEq, Eq, Debug)]
 pub enum Kind {
-    // number 1
     Account,
-    // number 2
     Remark,
 }
+
+// A number that is no kind's.
+#[derive(Clone, Copy, PartialEq, Eq, Debug)]
+pub struct UnknownKind;
 
 // What an account item says: a part and numbers in range. Whether they are lawful is the receiver's question.
 #[derive(Clone, Copy)]
@@ -35,6 +35,31 @@ pub struct AccountItem {
 pub struct Body {
     pub from: usize,
     pub end: usize,
+}
+
+impl From<Kind> for u32 {
+    ghost from_gives = { λ kind n. n ≡ number_of kind };
+
+    fn from(kind: Kind) -> u32 {
+        match kind {
+            Kind::Account => 1,
+            Kind::Remark => 2,
+        }
+    }
+}
+
+impl TryFrom<u32> for Kind {
+    type Error = UnknownKind;
+
+    ghost try_from_gives = { λ n r. result_ok r ≡ kind_numbered n };
+
+    fn try_from(number: u32) -> Result<Kind, UnknownKind> {
+        match number {
+            1 => Ok(Kind::Account),
+            2 => Ok(Kind::Remark),
+            _ => Err(UnknownKind),
+        }
+    }
 }
 
 impl Kind {
@@ -53,11 +78,9 @@ impl Kind {
 pub fn read_kind(bytes: &[u8], place: usize) -> Result<(Kind, usize), Refusal>
     ensures { result ≡ kind_at bytes.now place }
 {
-    match read_number(bytes, place)? {
-        (1, next) => Ok((Kind::Account, next)),
-        (2, next) => Ok((Kind::Remark, next)),
-        _ => Err(Refusal::Malformed { place }),
-    }
+    let (number, next) = read_number(bytes, place)?;
+    let kind = Kind::try_from(number).map_err(|_| Refusal::Malformed { place })?;
+    Ok((kind, next))
 }
 
 // The byte count at a place, and the place after it.

@@ -2,26 +2,20 @@
 ghost use Rattle.items.specs.Laws.{ItemsReadBack, ItemsReadOnly, AccountsReadBack, AccountsReadOnly, RemarksReadBack, RemarksReadOnly, AccountsAreShort};
 
 // What is written reads back, and what follows it is untouched.
-pub fn written_reads_back() -> u8
+pub fn written_reads_back()
     ensures items { ItemsReadBack }
     ensures accounts { AccountsReadBack }
     ensures remarks { RemarksReadBack }
-{
-    0
-}
+{}
 
 // Only bytes that writing gives are accepted.
-pub fn only_written_is_read() -> u8
+pub fn only_written_is_read()
     ensures items { ItemsReadOnly }
     ensures accounts { AccountsReadOnly }
     ensures remarks { RemarksReadOnly }
-{
-    0
-}
+{}
 
 // An account item never takes more than `LONGEST_ACCOUNT` bytes.
-pub fn account_items_are_short() -> u8
+pub fn account_items_are_short()
     ensures { AccountsAreShort }
-{
-    0
-}
+{}

@@ -1,5 +1,6 @@
 // Handing out the items of a parcel.
-ghost use Rattle.std.specs.Prelude.{◌≡◌, if◌then◌else◌};
+ghost use Rattle.std.specs.Prelude.{◌≡◌};
+ghost use Rattle.std.specs.Option.{unwrap_or};
 ghost use Rattle.items.specs.Parcels.{kind_in, stands_at, item_at, shown, next_item, next_place, ItemsAreTheParcel};
 
 use crate::item::{Body, Kind, read_body, read_kind};
@@ -25,25 +26,20 @@ pub struct Place {
     at: usize,
 }
 
-// Puts the place back on an item's first byte, unless the item was accepted.
+// Puts the place back on an item's first byte, until the item is accepted.
 struct Rewind<'a> {
     place: &'a mut Place,
-    first: usize,
-    accepted: bool,
+    back: Option<usize>,
 }
 
 impl Drop for Rewind<'_> {
     fn drop(self)
-        ensures { self.exit.0.now.at ≡ (if self.entry.accepted then self.entry.place.now.at else self.entry.first) }
+        ensures { self.exit.0.now.at ≡ unwrap_or self.entry.back self.entry.place.now.at }
     {
-        if !self.accepted {
-            self.place.at = self.first;
+        if let Some(first) = self.back {
+            self.place.at = first;
         }
-        let Rewind {
-            place: _,
-            first: _,
-            accepted: _,
-        } = self;
+        let Rewind { place: _, back: _ } = self;
     }
 }
 
@@ -52,17 +48,13 @@ fn pass_item(place: &mut Place, parcel: &[u8]) -> Result<Kind, Refusal>
     ensures answer { result ≡ kind_in (item_at parcel.now place.old.at) }
     ensures stands { place.new.at ≡ stands_at place.old.at (item_at parcel.now place.old.at) }
 {
-    let first = place.at;
-    let mut guard = Rewind {
-        place,
-        first,
-        accepted: false,
-    };
+    let back = Some(place.at);
+    let mut guard = Rewind { place, back };
     let (kind, next) = read_kind(parcel, guard.place.at)?;
     guard.place.at = next;
     let Body { from: _, end } = read_body(parcel, kind, guard.place.at)?;
     guard.place.at = end;
-    guard.accepted = true;
+    guard.back = None;
     Ok(kind)
 }
 

@@ -1,51 +1,22 @@
 // Reading account items and remarks.
 ghost use Rattle.std.specs.Prelude.{◌≡◌, ◌≤◌, length};
-ghost use Rattle.items.specs.AccountItems.{row_at, tally_at, part_at, numbers_at, in_body, account_at, only_account};
+ghost use Rattle.items.specs.AccountItems.{tally_at, part_at, numbers_at, in_body, account_at, only_account};
 ghost use Rattle.items.specs.Parcels.{text_of, only_remark};
-ghost use Rattle.numbers.specs.Reading.{many};
 
-use crate::item::{AccountItem, Body, Kind, LAST_PART, read_body, read_kind};
+use crate::coded::{Coded, read_coded};
+use crate::item::{AccountItem, Body, Kind, read_body, read_kind};
+use account::part::is_part;
 use account::refusal::Refusal;
 use account::tally::{Row, Tally};
 use numbers::number::read_number;
-
-const NO_COUNTS: Row = Row { counts: [0; 8] };
-
-// Eight counts from a place on, and the place after them.
-fn read_row(bytes: &[u8], place: usize) -> Result<(Row, usize), Refusal>
-    ensures { result ≡ row_at bytes.now place }
-{
-    let mut counts = [0; 8];
-    let mut next = place;
-    for i in 0..8 {
-        let (count, after) = read_number(bytes, next)?;
-        counts[i] = count;
-        next = after;
-    }
-    Ok((Row { counts }, next))
-}
-
-// Eight rows from a place on, and the place after them.
-fn read_rows(bytes: &[u8], place: usize) -> Result<([Row; 8], usize), Refusal>
-    ensures { result ≡ many row_at 8 bytes.now place }
-{
-    let mut rows = [NO_COUNTS; 8];
-    let mut next = place;
-    for i in 0..8 {
-        let (row, after) = read_row(bytes, next)?;
-        rows[i] = row;
-        next = after;
-    }
-    Ok((rows, next))
-}
 
 // The numbers of an account from a place on, and the place after them.
 pub fn read_tally(bytes: &[u8], place: usize) -> Result<(Tally, usize), Refusal>
     ensures { result ≡ tally_at bytes.now place }
 {
     let (reserve, next) = read_number(bytes, place)?;
-    let (rows, next) = read_rows(bytes, next)?;
-    let (issued, next) = read_row(bytes, next)?;
+    let (rows, next) = read_coded(bytes, next)?;
+    let (issued, next) = Row::read(bytes, next)?;
     Ok((
         Tally {
             reserve,
@@ -61,7 +32,7 @@ pub fn read_part(bytes: &[u8], place: usize) -> Result<(u32, usize), Refusal>
     ensures { result ≡ part_at bytes.now place }
 {
     let (part, next) = read_number(bytes, place)?;
-    if part < 1 || part > LAST_PART {
+    if !is_part(part) {
         return Err(Refusal::Malformed { place });
     }
     Ok((part, next))
@@ -90,11 +61,12 @@ fn read_in_body(bytes: &[u8], body: Body) -> Result<(AccountItem, usize), Refusa
 }
 
 // The account item at a place, and the place after it.
+#[tactic(auto, unfolding(crate::specs::AccountItems::account_at))]
 pub fn read_account_at(bytes: &[u8], place: usize) -> Result<(AccountItem, usize), Refusal>
     ensures { result ≡ account_at bytes.now place }
 {
     let (kind, next) = read_kind(bytes, place)?;
-    if let Kind::Remark = kind {
+    if kind == Kind::Remark {
         return Err(Refusal::OtherKind { place });
     }
     let body = read_body(bytes, kind, next)?;
@@ -117,7 +89,7 @@ pub fn read_remark(bytes: &[u8]) -> Result<&[u8], Refusal>
     ensures { text_of result ≡ only_remark bytes.now }
 {
     let (kind, next) = read_kind(bytes, 0)?;
-    if let Kind::Account = kind {
+    if kind == Kind::Account {
         return Err(Refusal::OtherKind { place: 0 });
     }
     let Body { from, end } = read_body(bytes, kind, next)?;

@@ -24,7 +24,7 @@ number_only bs p q n all h =
     let r = placed_inv p (front_number (drop p bs)) n q h in
     let used = r.0 in
     let only = front_only (drop p bs) n used (All-drop _ p bs all) r.1 in
-    let within : used ≤ length (drop p bs) = number-used (drop p bs) (n, used) r.1 in
+    let within : used ≤ length (drop p bs) = (number-used (drop p bs) (n, used) r.1).1 in
     let len : length (number_bytes n) ≡ used = ap length (sym only.1) ∙ length-take-le used (drop p bs) within in
     let back : drop used (drop p bs) ≡ drop q bs = drop-drop used p bs ∙ ap (λ (x : ℕ). drop x bs) (sym r.2) in (
       only.0,

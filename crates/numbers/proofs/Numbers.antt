@@ -1,15 +1,12 @@
 -- Laws of the groups, and the steps of the loop that reads them.
-use Rattle.std.proofs.Common.{◌≡◌, ℕ, zero, suc, ◌+◌, ◌-◌, ◌*◌, ◌/◌, ◌%◌, ◌^◌, ◌<◌, ◌≤◌, Bool, true, false, cond, ◌&&◌, eqb, ltb, leb, ◌⊎◌, List, [], ◌∷◌, ◌++◌, length, get_or, take, drop, set, Ok, Err, sym, refl, ap, ◌∙◌, subst, inl, inr, mul-le-mul_right, mul_assoc, mul_comm, add-mul, pow-suc, add-one, arith}
+use Rattle.std.proofs.Common.{◌≡◌, ℕ, zero, suc, ◌+◌, ◌-◌, ◌*◌, ◌/◌, ◌%◌, ◌^◌, ◌<◌, ◌≤◌, false, cond, ◌&&◌, eqb, ltb, leb, ◌⊎◌, List, [], ◌∷◌, ◌++◌, length, get_or, take, drop, set, Ok, Err, sym, refl, ap, ◌∙◌, subst, inl, inr, mul-le-mul_right, mul_assoc, mul_comm, add-mul, pow-suc, add-one, drop-cons, arith}
 use native.Mathlib.Nat.{pow-le-pow_right}
 use Rattle.std.proofs.lemmas.Bool.{lt-ltb, le-ltb, eqb-false, eq-eqb, ne_eqb, le-leb, lt-leb, leb-true, cases_lt, cases_Bool}
+use Rattle.std.proofs.Math.Bool.{and-false}
 use Rattle.std.specs.List.{AllByRecursion}
-use Rattle.std.proofs.lemmas.List.{at_drop_more, at_drop_all, append_assoc, drop-drop, drop-set-lt, take_more_set, take-append-drop, take_at}
+use Rattle.std.proofs.lemmas.List.{at_drop_more, at_drop_all, append_assoc, set-append_right, take_all, take_more_set, take_at}
 use Rattle.numbers.specs.declared.number.Fault.TheVariants.{Short, Wrong}
 use Rattle.numbers.specs.Numbers.{groups, number_bytes, Got, above, grouped, in_range, front_number}
-
-and_false : (b : Bool) → (b && false) ≡ false
-and_false true = refl
-and_false false = refl
 
 -- a read of the groups from the i-th on, of weight w, above those whose value is a
 abbrev pub joins : ℕ → ℕ → ℕ → Got → Got
@@ -28,7 +25,7 @@ joins-above w a i low (Ok p) =
           let z : eqb (low + 128 * p.0) 0 ≡ false = ne_eqb _ _ (λ q. eqb-false p.0 0 e (omega arith)) in
           let v : a + (low + 128 * p.0) * w ≡ a + low * w + p.0 * (w * 128) = above-value a w low p.0 in
           let u : i + suc p.1 ≡ i + 1 + p.1 = omega arith in
-          rw (e, z, v, u, and_false (ltb 0 i), and_false (ltb 0 (i + 1)))
+          rw (e, z, v, u, and-false (ltb 0 i), and-false (ltb 0 (i + 1)))
     ]
 joins-above w a i low (Err e) = refl
 
@@ -101,7 +98,7 @@ module _ (w a i b : ℕ) (low : b < 128) where
   last_longer e h = rw (eq-eqb b 0 e, lt-ltb 0 i h)
 
   shorter : ((b ≡ 0 → ⊥) ⊎ (i ≡ 0)) → (ltb 0 i && eqb b 0) ≡ false
-  shorter (inl n) = rw (ne_eqb b 0 n) (and_false (ltb 0 i))
+  shorter (inl n) = rw (ne_eqb b 0 n) (and-false (ltb 0 i))
   shorter (inr e) = rw (le-ltb 0 i (omega arith))
 
   pub last_over : ((b ≡ 0 → ⊥) ⊎ (i ≡ 0)) → 1000000000 < a + b % 128 * w → Last ≡ Err Wrong
@@ -122,12 +119,12 @@ above_ok low (Ok q) p h =
     elim (cases_Bool (eqb q.0 0)) [
       | inl e ↦
           let bad : Err Wrong ≡ Ok p = rw e at h in
-          absurd (let z : ◌≡◌ {A = ℕ} 0 1 = cc in omega arith)
+          cc
       | inr e ↦
           let good : Ok (low + 128 * q.0, suc q.1) ≡ Ok p = rw e at h in
           (q, refl, eqb-false q.0 0 e, cc, cc)
     ]
-above_ok low (Err e) p h = absurd (let z : ◌≡◌ {A = ℕ} 0 1 = cc in omega arith)
+above_ok low (Err e) p h = cc
 
 abbrev pub Written : ℕ → List ℕ → ℕ × ℕ → Type 0
 Written k bs p = (bs ≡ groups k p.0 ++ drop p.1 bs) × (length (groups k p.0) ≡ p.1)
@@ -152,11 +149,11 @@ written_more k b bs m v n u h l ne is used w =
     )
 
 pub grouped-written : (k : ℕ) (bs : List ℕ) (p : ℕ × ℕ) → AllByRecursion (λ b. b < 256) bs → grouped k bs ≡ Ok p → Written k bs p
-grouped-written k [] p a e = absurd (let z : ◌≡◌ {A = ℕ} 0 1 = cc in omega arith)
+grouped-written k [] p a e = cc
 grouped-written zero (b ∷ bs) p a e =
     elim (cases_lt b 128) [
       | inl h ↦ written_one 0 b bs p h e
-      | inr h ↦ let f : Err Wrong ≡ Ok p = sym (grouped_full 0 b bs refl h) ∙ e in absurd (let z : ◌≡◌ {A = ℕ} 0 1 = cc in omega arith)
+      | inr h ↦ let f : Err Wrong ≡ Ok p = sym (grouped_full 0 b bs refl h) ∙ e in cc
     ]
 grouped-written (suc k) (b ∷ bs) p a e =
     elim (cases_lt b 128) [
@@ -167,21 +164,26 @@ grouped-written (suc k) (b ∷ bs) p a e =
     ]
 
 -- how many bytes it takes
-pub grouped-used : (k : ℕ) (bs : List ℕ) (p : ℕ × ℕ) → grouped k bs ≡ Ok p → p.1 ≤ length bs
-grouped-used k [] p e = absurd (let z : ◌≡◌ {A = ℕ} 0 1 = cc in omega arith)
+abbrev pub Used : List ℕ → ℕ × ℕ → Type 0
+Used bs p = (0 < p.1) × (p.1 ≤ length bs)
+
+one_used : (b : ℕ) (bs : List ℕ) (p : ℕ × ℕ) → ◌≡◌ {A = Got} (Ok (b, 1)) (Ok p) → Used (b ∷ bs) p
+one_used b bs p e = let one : p.1 ≡ 1 = cc in (omega arith, omega arith)
+
+grouped-used : (k : ℕ) (bs : List ℕ) (p : ℕ × ℕ) → grouped k bs ≡ Ok p → Used bs p
+grouped-used k [] p e = cc
 grouped-used zero (b ∷ bs) p e =
     elim (cases_lt b 128) [
-      | inl h ↦ let f : Ok (b, 1) ≡ Ok p = sym (grouped_last 0 b bs h) ∙ e in
-          let g : p.1 ≡ 1 = cc in omega arith
-      | inr h ↦ let f : Err Wrong ≡ Ok p = sym (grouped_full 0 b bs refl h) ∙ e in absurd (let z : ◌≡◌ {A = ℕ} 0 1 = cc in omega arith)
+      | inl h ↦ one_used b bs p (sym (grouped_last 0 b bs h) ∙ e)
+      | inr h ↦ let f : Err Wrong ≡ Ok p = sym (grouped_full 0 b bs refl h) ∙ e in cc
     ]
 grouped-used (suc k) (b ∷ bs) p e =
     elim (cases_lt b 128) [
-      | inl h ↦ let f : Ok (b, 1) ≡ Ok p = sym (grouped_last (suc k) b bs h) ∙ e in
-          let g : p.1 ≡ 1 = cc in omega arith
+      | inl h ↦ one_used b bs p (sym (grouped_last (suc k) b bs h) ∙ e)
       | inr h ↦
           let q = above_ok (b % 128) (grouped k bs) p ((rw (le-ltb b 128 h) at e)) in
-          omega (arith, grouped-used k bs q.0 q.1, q.4)
+          let more = grouped-used k bs q.0 q.1 in
+          (omega (arith, q.4), omega (arith, q.4))
     ]
 
 in_range_ok : (m : ℕ) (g : Got) (p : ℕ × ℕ) → in_range m g ≡ Ok p → (g ≡ Ok p) × (p.0 ≤ m)
@@ -189,11 +191,11 @@ in_range_ok m (Ok q) p h =
     elim (cases_Bool (leb q.0 m)) [
       | inl e ↦ let f : Ok q ≡ Ok p = rw e at h in
           let f' : q ≡ p = cc in (f, omega (arith, leb-true q.0 m e, ap (λ (x : ℕ × ℕ). x.0) f'))
-      | inr e ↦ let f : Err Wrong ≡ Ok p = rw e at h in absurd (let z : ◌≡◌ {A = ℕ} 0 1 = cc in omega arith)
+      | inr e ↦ let f : Err Wrong ≡ Ok p = rw e at h in cc
     ]
-in_range_ok m (Err e) p h = absurd (let z : ◌≡◌ {A = ℕ} 0 1 = cc in omega arith)
+in_range_ok m (Err e) p h = cc
 
-pub number-used : (bs : List ℕ) (p : ℕ × ℕ) → front_number bs ≡ Ok p → p.1 ≤ length bs
+pub number-used : (bs : List ℕ) (p : ℕ × ℕ) → front_number bs ≡ Ok p → Used bs p
 unfolding front_number
 number-used bs p e = grouped-used 4 bs p (in_range_ok _ (grouped 4 bs) p e).0
 
@@ -217,10 +219,10 @@ grouped-groups (suc k) n rest h =
           rw (e, t, m) (ap (above (n % 128)) i ∙ rw (z, v))
     ]
 
--- the writing loop: ys is xs with i groups of n written, and m is left of n
-abbrev pub Writes : List ℕ → List ℕ → ℕ → ℕ → ℕ → Type 0
-Writes xs ys i m n =
-    (k : ℕ) × (m < room k) × (take i ys ++ groups k m ≡ groups 4 n) × (drop i ys ≡ drop i xs) × (i + length (groups k m) ≡ length (groups 4 n))
+-- the writing loop: i groups of n are written into ys, and m is left of n
+abbrev pub Writes : List ℕ → ℕ → ℕ → ℕ → Type 0
+Writes ys i m n =
+    (k : ℕ) × (m < room k) × (take i ys ++ groups k m ≡ groups 4 n) × (i + length (groups k m) ≡ length (groups 4 n))
 
 groups_last : (k m : ℕ) → m < 128 → groups k m ≡ m ∷ []
 groups_last zero m h = refl
@@ -235,36 +237,36 @@ groups_some zero m = omega arith
 groups_some (suc k) m =
     elim (cases_Bool (ltb m 128)) [ inl e ↦ rw e (omega arith) | inr e ↦ rw e (omega arith) ]
 
-pub writes_none : (xs : List ℕ) (n : ℕ) → n < 2 ^ 32 → Writes xs xs 0 n n
-writes_none xs n h = (4, omega arith, refl, refl, omega arith)
+pub writes_none : (ys : List ℕ) (n : ℕ) → n < 2 ^ 32 → Writes ys 0 n n
+writes_none ys n h = (4, omega arith, refl, omega arith)
 
-pub writes_within : (xs ys : List ℕ) (i m n : ℕ) → length (groups 4 n) ≤ length ys → Writes xs ys i m n → i < length ys
-writes_within xs ys i m n h w = omega (arith, groups_some w.0 m, w.4)
-
-drop-next : (xs ys : List ℕ) (i b : ℕ) → drop i ys ≡ drop i xs → drop (i + 1) (set ys i b) ≡ drop (i + 1) xs
-drop-next xs ys i b e =
-    let l : i < i + 1 = omega arith in
-    drop-set-lt (i + 1) ys i b l ∙ sym (drop-drop 1 i ys) ∙ ap (drop 1) e ∙ drop-drop 1 i xs
-
-pub writes_more : (xs ys : List ℕ) (i m n : ℕ) → i < length ys → 128 ≤ m → Writes xs ys i m n → Writes xs (set ys i (128 + m % 128)) (i + 1) (m / 128) n
-writes_more xs ys i m n within h w =
-    let g = groups_more w.0 m h w.1 in
-    let e = g.2 in (
+-- where more than one group is left, the next has its top bit set
+pub writes_more : (ys : List ℕ) (i m n : ℕ) → i < length ys → i + 1 < length (groups 4 n) → Writes ys i m n → Writes (set ys i (128 + m % 128)) (i + 1) (m / 128) n
+writes_more ys i m n within more w =
+    let large : 128 ≤ m = elim (cases_lt m 128) [ inl l ↦ absurd (omega (arith, ap length (groups_last w.0 m l), w.3)) | inr h ↦ h ] in
+    let g = groups_more w.0 m large w.1 in (
       g.0,
       g.1,
-      rw (take_more_set ys i (128 + m % 128) within, append_assoc) (ap (λ (x : List ℕ). take i ys ++ x) (sym e) ∙ w.2),
-      drop-next xs ys i _ w.3,
-      omega (arith, ap length e, w.4),
+      rw (take_more_set ys i (128 + m % 128) within, append_assoc) (ap (λ (x : List ℕ). take i ys ++ x) (sym g.2) ∙ w.2),
+      omega (arith, ap length g.2, w.3),
     )
 
-pub writes_all : (xs ys : List ℕ) (i m n : ℕ) → i < length ys → m < 128 → Writes xs ys i m n → set ys i m ≡ groups 4 n ++ drop (length (groups 4 n)) xs
-writes_all xs ys i m n within h w =
-    let g = groups_last w.0 m h in
-    let len : length (groups 4 n) ≡ i + 1 = omega (arith, ap length g, w.4) in
-    let front : take (i + 1) (set ys i m) ≡ groups 4 n = take_more_set ys i m within ∙ ap (λ (x : List ℕ). take i ys ++ x) (sym g) ∙ w.2 in
-    let back : drop (i + 1) (set ys i m) ≡ drop (i + 1) xs = drop-next xs ys i m w.3 in
-    sym (take-append-drop (i + 1) (set ys i m)) ∙ ap (λ (x : List ℕ). x ++ drop (i + 1) (set ys i m)) front
-    ∙ ap (λ (x : List ℕ). groups 4 n ++ x) back ∙ ap (λ (x : ℕ). groups 4 n ++ drop x xs) (sym len)
+-- where one group is left, it is what is left
+pub writes_small : (ys : List ℕ) (i m n : ℕ) → length (groups 4 n) ≡ i + 1 → Writes ys i m n → m < 128
+writes_small ys i m n one w =
+    elim (cases_lt m 128) [
+      | inl l ↦ l
+      | inr h ↦ let g = groups_more w.0 m h w.1 in absurd (omega (arith, ap length g.2, groups_some g.0 (m / 128), w.3))
+    ]
+
+pub writes_all : (xs ys : List ℕ) (i m n : ℕ) → length (groups 4 n) ≡ i + 1 → length ys ≡ i → i < length xs → Writes ys i m n → set (ys ++ drop i xs) i m ≡ groups 4 n ++ drop (length (groups 4 n)) xs
+writes_all xs ys i m n one long within w =
+    let last : groups w.0 m ≡ m ∷ [] = groups_last w.0 m (writes_small ys i m n one w) in
+    let front : ys ++ m ∷ [] ≡ groups 4 n =
+    ap (λ (x : List ℕ). x ++ m ∷ []) (sym (take_all i ys (omega arith))) ∙ ap (λ (x : List ℕ). take i ys ++ x) (sym last) ∙ w.2 in
+    let rest : set (drop i xs) 0 m ≡ m ∷ drop (i + 1) xs = rw (add-one, drop-cons xs i 0 within) refl in
+    let none : i - i ≡ 0 = omega arith in
+    set-append_right ys (drop i xs) i i m long (omega arith) ∙ rw (one, ← front, append_assoc, none) (ap (λ (x : List ℕ). ys ++ x) rest)
 
 -- what is written reads back, whatever follows
 pub front_back : (n : ℕ) (rest : List ℕ) → n ≤ 1000000000 → front_number (number_bytes n ++ rest) ≡ Ok (n, length (number_bytes n))

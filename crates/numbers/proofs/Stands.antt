@@ -19,7 +19,7 @@ pub then_ok : {A B : Type 0} (f : A → Result B Refusal) {r : Result A Refusal}
 then_ok {A} f e h = ap (λ (z : Result A Refusal). and_then z f) e ∙ h
 
 pub never : {A B : Type 0} (x : B) (e : A) → ◌≡◌ {A = Result B A} (Err e) (Ok x) → ⊥
-never x e h = let z : ◌≡◌ {A = ℕ} 0 1 = cc in omega arith
+never x e h = cc
 
 -- what an accepted chain of steps tells of its first
 pub then_inv : {A B : Type 0} (r : Result A Refusal) (f : A → Result B Refusal) (y : B) → and_then r f ≡ Ok y → (x : A) × (r ≡ Ok x) × (f x ≡ Ok y)

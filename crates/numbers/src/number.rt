@@ -3,13 +3,10 @@ ghost use Rattle.std.specs.Prelude.{◌≡◌, length, drop};
 ghost use Rattle.numbers.specs.Numbers.{number_bytes, room_for, written, front_number, refusal_at, number_at};
 
 use account::refusal::Refusal;
+use account::tally::LIMIT;
 
-const LARGEST: u64 = 1_000_000_000;
-
-// The places of the first and of the last group that a number may have.
-const FIRST_GROUP: usize = 0;
-
-const LAST_GROUP: usize = 4;
+// The most bytes of a number.
+const LONGEST: usize = 5;
 
 // Why bytes are no number: they end before it does, or it is not in shortest form or too large.
 #[derive(Clone, Copy)]
@@ -31,6 +28,7 @@ impl Fault {
 }
 
 // How many bytes the number takes.
+#[tactic(auto, unfolding(crate::specs::Numbers::number_bytes))]
 pub fn number_len(n: u32) -> usize
     ensures { result ≡ length (number_bytes n) }
 {
@@ -53,13 +51,11 @@ pub fn write_number(out: &mut [u8], n: u32) -> Option<usize>
         return None;
     }
     let mut left = n;
-    let mut i = 0;
-    while left >= 128 {
-        out[i] = (128 + left % 128) as u8;
+    for byte in &mut out[..used - 1] {
+        *byte = (128 + left % 128) as u8;
         left /= 128;
-        i += 1;
     }
-    out[i] = left as u8;
+    out[used - 1] = left as u8;
     Some(used)
 }
 
@@ -67,20 +63,17 @@ pub fn write_number(out: &mut [u8], n: u32) -> Option<usize>
 fn front_number(bytes: &[u8]) -> Result<(u32, usize), Fault>
     ensures { result ≡ front_number bytes.now }
 {
-    let mut value: u64 = 0;
-    let mut weight: u64 = 1;
-    for (i, b) in bytes.iter().enumerate() {
-        value += (*b % 128) as u64 * weight;
-        if *b < 128 {
-            if *b == 0 && i > FIRST_GROUP {
-                return Err(Fault::Wrong);
-            }
-            if value > LARGEST {
+    let mut value = 0;
+    let mut weight = 1;
+    for (i, byte) in bytes.iter().enumerate() {
+        value += u64::from(*byte % 128) * weight;
+        if *byte < 128 {
+            if (*byte == 0 && i > 0) || value > u64::from(LIMIT) {
                 return Err(Fault::Wrong);
             }
             return Ok((value as u32, i + 1));
         }
-        if i == LAST_GROUP {
+        if i + 1 == LONGEST {
             return Err(Fault::Wrong);
         }
         weight *= 128;
@@ -92,19 +85,13 @@ fn front_number(bytes: &[u8]) -> Result<(u32, usize), Fault>
 fn tail(bytes: &[u8], place: usize) -> &[u8]
     ensures { result.now ≡ drop place bytes.now }
 {
-    if place < bytes.len() {
-        &bytes[place..]
-    } else {
-        &[]
-    }
+    bytes.get(place..).unwrap_or(&[])
 }
 
 // The number at a place, and the place after it.
 pub fn read_number(bytes: &[u8], place: usize) -> Result<(u32, usize), Refusal>
     ensures { result ≡ number_at bytes.now place }
 {
-    match front_number(tail(bytes, place)) {
-        Ok((n, used)) => Ok((n, place + used)),
-        Err(fault) => Err(fault.at(place)),
-    }
+    let (n, used) = front_number(tail(bytes, place)).map_err(|fault| fault.at(place))?;
+    Ok((n, place + used))
 }

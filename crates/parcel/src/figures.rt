@@ -20,14 +20,7 @@ pub struct Figures {
 fn free_stocks(account: &Account) -> [u64; 8]
     ensures { result ≡ eight (free_of account.now) }
 {
-    let mut free = [0; 8];
-    for i in 0..8 {
-        let Ok(depot) = DepotNumber::new(i as u32 + 1) else {
-            unreachable()
-        };
-        free[i] = account.free(depot);
-    }
-    free
+    DepotNumber::all().map(|depot| account.free(depot))
 }
 
 impl Figures {

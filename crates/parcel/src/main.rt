@@ -10,10 +10,10 @@ use items::parcel::Reader;
 use std::io;
 use std::io::Read;
 
-// One line for each item, and where reading ends and why. A parcel has no more items than bytes.
+// One line for each item, and where reading ends and why.
 fn list(rt: &HostRuntime, parcel: &[u8]) -> io::Result<()> {
     let mut reader = Reader::new(parcel);
-    for _ in 0..=parcel.len() {
+    loop {
         match reader.next_item() {
             Ok(Some(handed)) => {
                 let line = line_of(parcel, handed);
@@ -30,7 +30,6 @@ fn list(rt: &HostRuntime, parcel: &[u8]) -> io::Result<()> {
             }
         }
     }
-    Ok(())
 }
 
 fn main(rt: HostRuntime) -> io::Result<()> {

@@ -1,7 +1,8 @@
-use Rattle.std.proofs.Common.{◌≡◌, ℕ, ◌*◌, ◌%◌, ◌≤◌, ◌⊎◌, get_or, sym, ap, ◌∙◌, inl, inr, mul-le-mul_right, arith}
+use Rattle.std.proofs.Common.{◌≡◌, ℕ, ◌+◌, ◌*◌, ◌%◌, ◌<◌, ◌≤◌, ◌⊎◌, List, length, get_or, sym, ap, ◌∙◌, inl, inr, mul-le-mul_right, arith}
 use Rattle.numbers.specs.Numbers.{in_range, front_number}
-use Rattle.numbers.proofs.Numbers.{reads_none, reads_bound, reads_last, reads_full, reads_more, reads_all, last_longer, last_over, last_good}
+use Rattle.numbers.proofs.Numbers.{Reads, Last, reads_none, reads_bound, reads_last, reads_full, reads_more, reads_all, last_longer, last_over, last_good}
 use Rattle.numbers.proofs.number.front_number.Goals as goal
+use Rattle.numbers.proofs.number.front_number.Goals.{then-i-gt0-via-then-i-gt0, then-i-gt0-via-else-i-gt0+then-value-from}
 
 pub loop-i-init : goal.loop-i-init
 loop-i-init c = reads_none c.args.bytes.now
@@ -10,54 +11,51 @@ pub overflow_mul-value : goal.overflow_mul-value
 overflow_mul-value c =
     let h : c.loop-i.weight ≤ 268435456 = reads_bound _ _ _ _ c.loop-i.invariant in
     let m : get_or c.args.bytes.now c.loop-i.i 0 % 128 * c.loop-i.weight ≤ 127 * c.loop-i.weight = mul-le-mul_right _ (omega arith) in
-    omega arith
+    rw c.from.ensures (omega arith)
 
 pub overflow_add-value : goal.overflow_add-value
 overflow_add-value c =
     let h : c.loop-i.weight ≤ 268435456 = reads_bound _ _ _ _ c.loop-i.invariant in
     let m : get_or c.args.bytes.now c.loop-i.i 0 % 128 * c.loop-i.weight ≤ 127 * c.loop-i.weight = mul-le-mul_right _ (omega arith) in
-    omega (arith, c.loop-i.invariant.3)
-
-pub overflow_mul-weight : goal.overflow_mul-weight
-overflow_mul-weight c =
-    let h : c.loop-i.weight ≤ 268435456 = reads_bound _ _ _ _ c.loop-i.invariant in omega arith
+    rw c.from.ensures (omega (arith, c.loop-i.invariant.3))
 
 pub loop-i-preserved : goal.loop-i-preserved
-loop-i-preserved c = reads_more _ _ _ _ c.loop-i-test.true c.loop-i.invariant c.if-i-eq-LAST_GROUP.false c.if-b-lt128.false
+loop-i-preserved c =
+    rw c.from.ensures (reads_more _ _ _ _ c.loop-i-test.true c.loop-i.invariant (omega arith) c.if-byte-lt128.false)
 
-pub returns-then-i-gt-FIRST_GROUP : goal.returns-then-i-gt-FIRST_GROUP
-unfolding front_number
-returns-then-i-gt-FIRST_GROUP c =
-    sym
-    (ap (in_range 1000000000) (reads_last _ _ _ _ c.loop-i-test.true c.loop-i.invariant c.if-b-lt128.true)
-    ∙ last_longer _ _ _ _ c.if-b-lt128.true c.if-b-eq0.true (omega arith)
-    )
+-- the last group was read
+module _ (bs : List ℕ) (i w a : ℕ) (within : i < length bs) (r : Reads bs i w a) (low : get_or bs i 0 < 128) where
+  last : front_number bs ≡ Last w a i (get_or bs i 0) low
+  unfolding front_number
+  last = ap (in_range 1000000000) (reads_last bs i w a within r low)
 
 -- the shortest form: the last group is not zero, or it is the first
 shortest : {b i : ℕ} → (((b ≡ 0) × (i ≤ 0)) ⊎ (b ≡ 0 → ⊥)) → (b ≡ 0 → ⊥) ⊎ (i ≡ 0)
 shortest (inl h) = inr (omega arith)
 shortest (inr n) = inl n
 
-pub returns-then-value-gt-LARGEST : goal.returns-then-value-gt-LARGEST
-unfolding front_number
-returns-then-value-gt-LARGEST c =
-    sym
-    (ap (in_range 1000000000) (reads_last _ _ _ _ c.loop-i-test.true c.loop-i.invariant c.if-b-lt128.true)
-    ∙ last_over _ _ _ _ c.if-b-lt128.true (shortest c.else-b-eq0.either) c.if-value-gt-LARGEST.true
-    )
+pub returns-then-i-gt0 : goal.returns-then-i-gt0
+returns-then-i-gt0 c =
+    let here = last _ _ _ _ c.loop-i-test.true c.loop-i.invariant c.if-byte-lt128.true in
+    elim c.then-i-gt0.branch [
+      | then-i-gt0-via-then-i-gt0 w ↦ sym (here ∙ last_longer _ _ _ _ c.if-byte-lt128.true w.if-i-gt0.true.0 w.if-i-gt0.true.1)
+      | then-i-gt0-via-else-i-gt0+then-value-from w ↦
+          let over : 1000000000 < c.loop-i.value + get_or c.args.bytes.now c.loop-i.i 0 % 128 * c.loop-i.weight =
+          rw (← c.from.ensures) (omega arith) in
+          sym (here ∙ last_over _ _ _ _ c.if-byte-lt128.true (shortest w.if-i-gt0.either) over)
+    ]
 
-pub returns-then-b-lt128 : goal.returns-then-b-lt128
-unfolding front_number
-returns-then-b-lt128 c =
-    sym
-    (ap (in_range 1000000000) (reads_last _ _ _ _ c.loop-i-test.true c.loop-i.invariant c.if-b-lt128.true)
-    ∙ last_good _ _ _ _ c.if-b-lt128.true (shortest c.else-b-eq0.either) c.if-value-gt-LARGEST.false
-    )
+pub returns-then-byte-lt128 : goal.returns-then-byte-lt128
+returns-then-byte-lt128 c =
+    let here = last _ _ _ _ c.loop-i-test.true c.loop-i.invariant c.if-byte-lt128.true in
+    let good : c.loop-i.value + get_or c.args.bytes.now c.loop-i.i 0 % 128 * c.loop-i.weight ≤ 1000000000 =
+    rw (← c.from.ensures) (omega arith) in
+    rw c.from.ensures (sym (here ∙ last_good _ _ _ _ c.if-byte-lt128.true (shortest c.if-i-gt0.either) good))
 
-pub returns-then-i-eq-LAST_GROUP : goal.returns-then-i-eq-LAST_GROUP
+pub returns-then-i-eq-LONGEST : goal.returns-then-i-eq-LONGEST
 unfolding front_number
-returns-then-i-eq-LAST_GROUP c =
-    sym (ap (in_range 1000000000) (reads_full _ _ _ _ c.loop-i-test.true c.loop-i.invariant c.if-i-eq-LAST_GROUP.true c.if-b-lt128.false))
+returns-then-i-eq-LONGEST c =
+    sym (ap (in_range 1000000000) (reads_full _ _ _ _ c.loop-i-test.true c.loop-i.invariant (omega arith) c.if-byte-lt128.false))
 
 pub returns : goal.returns
 unfolding front_number

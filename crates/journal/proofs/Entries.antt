@@ -2,10 +2,11 @@
 use Rattle.std.proofs.Common.{◌≡◌, ℕ, ◌+◌, ◌<◌, ◌≤◌, true, leb, ◌++◌, length, drop, Ok, sym, ap, ◌∙◌, subst, inl, inr, arith}
 use Rattle.std.proofs.lemmas.List.{append_assoc, length-append}
 use Rattle.std.proofs.lemmas.Bool.{and_parts, leb-true, cases_Bool}
+use Rattle.std.specs.Option.{ok_or}
 use Rattle.account.specs.Accounts.{checked}
 use Rattle.account.specs.Lawful.{lawful}
 use Rattle.account.specs.declared.account.Account.{Account}
-use Rattle.account.specs.declared.refusal.Refusal.TheVariants.{Malformed}
+use Rattle.account.specs.declared.refusal.Refusal.TheVariants.{Malformed, Contradiction}
 use Rattle.account.specs.declared.tally.Tally.{Tally}
 use Rattle.account.proofs.Checked.{checked-account, checked-lawful, checked_unlawful}
 use Rattle.items.specs.AccountItems.{account_bytes, account_at, ItemFits}
@@ -13,13 +14,15 @@ use Rattle.numbers.specs.Numbers.{number_bytes, number_at}
 use Rattle.numbers.specs.Reading.{ReadsBack, ReadsOnly, Stand}
 use Rattle.items.specs.Writing.{item_of}
 use Rattle.items.specs.declared.item.AccountItem.{AccountItem}
-use Rattle.items.proofs.AccountCodec.{account_back, account_only, part_fits}
+use Rattle.items.proofs.AccountCodec.{account_back, account_only}
 use Rattle.items.proofs.AccountFits.{account_fits}
 use Rattle.numbers.proofs.Codecs.{number_back, number_only}
 use Rattle.items.proofs.Lengths.{number_some, number-most, account-most}
 use Rattle.numbers.proofs.Stands.{behind, stand_join, then_ok, then_inv, ok_same, passed, never}
 use Rattle.store.specs.Meaning.{version_ok}
-use Rattle.journal.specs.Journals.{Entry, EntryFits, entry_bytes, version_at, or_contradiction, entry_at}
+use Rattle.journal.specs.declared.entry.Entry.{Entry}
+use Rattle.journal.specs.Journals.{EntryFits, entry_bytes, version_at, entry_at}
+use Rattle.journal.specs.JournalSound.{entry_read}
 
 -- the numbers of a lawful entry
 pub version-small : (v : ℕ) → version_ok v ≡ true → v ≤ 1000000000
@@ -55,16 +58,16 @@ entry_back bs rest p e fits stands =
     let version : version_at bs p ≡ Ok (e.version, p₁) = then_ok _ (number_back bs _ p e.version (version-small e.version fits.version) s₀) (rw fits.version) in
     then_ok _ version
     (then_ok _ (account_back bs rest p₁ item (item_fits e fits) s₁)
-    (then_ok _ (ap or_contradiction (checked-account e.account)) (ap (λ (q : ℕ). Ok (e, q)) end)))
+    (then_ok _ (ap (λ o. ok_or o Contradiction) (checked-account e.account)) (ap (λ (q : ℕ). Ok (e, q)) end)))
 
 -- the account of numbers that are lawful has these numbers
-checked-tally : (t : Tally) (a : Account) → or_contradiction (checked t) ≡ Ok a → a.tally ≡ t
+checked-tally : (t : Tally) (a : Account) → ok_or (checked t) Contradiction ≡ Ok a → a.tally ≡ t
 checked-tally t a h =
     elim (cases_Bool (lawful t)) [
       | inl l ↦
-          let e : Ok (record { tally = t; law = l }) ≡ Ok a = sym (ap or_contradiction (checked-lawful t l)) ∙ h in
+          let e : Ok (record { tally = t; law = l }) ≡ Ok a = sym (ap (λ o. ok_or o Contradiction) (checked-lawful t l)) ∙ h in
           sym (ap (λ (x : Account). x.tally) (ok_same _ _ e))
-      | inr l ↦ absurd (never a _ (sym (ap or_contradiction (checked_unlawful t l)) ∙ h))
+      | inr l ↦ absurd (never a _ (sym (ap (λ o. ok_or o Contradiction) (checked_unlawful t l)) ∙ h))
     ]
 
 pub entry_only : ReadsOnly entry_at entry_bytes EntryFits
@@ -73,17 +76,13 @@ entry_only bs p q e all h =
     let v = then_inv (version_at bs p) _ (e, q) h in
     let i = then_inv (account_at bs v.0.1) _ (e, q) v.2 in
     let item = i.0.0 in
-    let a = then_inv (or_contradiction (checked item.tally)) _ (e, q) i.2 in
+    let a = then_inv (ok_or (checked item.tally) Contradiction) _ (e, q) i.2 in
     let g = then_inv (number_at bs p) _ v.0 v.1 in
     let ok = passed (version_ok g.0.0) g.0 v.0 (Malformed p) g.2 in
-    let one : (version_ok v.0.0 ≡ true) × Stand bs p (number_bytes v.0.0) v.0.1 =
-    subst (λ (y : ℕ × ℕ). (version_ok y.0 ≡ true) × Stand bs p (number_bytes y.0) y.1) ok.1 (ok.0, (number_only bs p g.0.1 g.0.0 all g.1).1) in
+    let one : Stand bs p (number_bytes v.0.0) v.0.1 = subst (λ (y : ℕ × ℕ). Stand bs p (number_bytes y.0) y.1) ok.1 (number_only bs p g.0.1 g.0.0 all g.1).1 in
     let two = account_only bs v.0.1 i.0.1 item all i.1 in
     let same : item ≡ item_of item.part a.0 = ap (λ (t : Tally). record { part = item.part; tally = t }) (sym (checked-tally item.tally a.0 a.1)) in
     let three : Stand bs v.0.1 (account_bytes (item_of item.part a.0)) i.0.1 =
     subst (λ (x : AccountItem). Stand bs v.0.1 (account_bytes x) i.0.1) same two.1 in
-    let P : Entry × ℕ → Type 0 = λ y. EntryFits y.0 × Stand bs p (entry_bytes y.0) y.1 in
-    subst P (ok_same _ _ a.2) (
-      record { version = one.0; part = part_fits item.part two.0.least two.0.most },
-      stand_join bs p _ _ _ _ one.1 three,
-    )
+    let P : Entry × ℕ → Type 0 = λ y. Stand bs p (entry_bytes y.0) y.1 in
+    (entry_read bs p q e h, subst P (ok_same _ _ a.2) (stand_join bs p _ _ _ _ one three))

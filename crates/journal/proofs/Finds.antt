@@ -1,9 +1,11 @@
 -- A pass over the entries, and the latest that it finds.
-use Rattle.std.proofs.Common.{◌≡◌, ℕ, ◌+◌, ◌<◌, ◌≤◌, Bool, true, false, cond, eqb, List, [], ◌∷◌, ◌++◌, length, drop, Some, None, Ok, Err, Option, Result, sym, refl, ap, ◌∙◌, subst, arith}
+use Rattle.std.proofs.Common.{◌≡◌, ◌≢◌, ℕ, ◌+◌, ◌<◌, ◌≤◌, Bool, true, false, cond, eqb, List, [], ◌∷◌, ◌++◌, length, drop, Some, None, Ok, Err, Option, Result, sym, refl, ap, ◌∙◌, subst, arith}
 use Rattle.std.specs.List.{flat_map, AllByRecursion}
-use Rattle.std.specs.Option.{option_map, option_or}
+use Rattle.std.specs.Option.{ok_or, option_map, option_or}
 use Rattle.std.proofs.lemmas.List.{append_assoc, length-append}
+use Rattle.std.proofs.lemmas.Bool.Decides.{nat_tests}
 use Rattle.account.specs.declared.refusal.Refusal.{Refusal}
+use Rattle.account.specs.declared.refusal.Refusal.TheVariants.{Contradiction}
 use Rattle.account.proofs.Checked.{checked-account}
 use Rattle.items.specs.AccountItems.{tally_bytes, body_bytes, account_bytes}
 use Rattle.numbers.specs.Numbers.{number_bytes}
@@ -14,7 +16,8 @@ use Rattle.numbers.proofs.Codecs.{number_back}
 use Rattle.items.proofs.Lengths.{account-length}
 use Rattle.numbers.proofs.Stands.{behind, then_ok, ok_same, never}
 use Rattle.store.specs.Meaning.{Record}
-use Rattle.journal.specs.Journals.{Entry, EntryFits, entry_bytes, or_contradiction, scan, record_of, latest, skim_at, later, told}
+use Rattle.journal.specs.Journals.{EntryFits, entry_bytes, scan, record_of, latest, skim_at, told}
+use Rattle.journal.specs.declared.entry.Entry.{Entry}
 use Rattle.journal.specs.declared.skim.Skimmed.{Skimmed}
 use Rattle.journal.proofs.Entries.{version-small, item_fits, entry_length, entry_some}
 use Rattle.journal.proofs.Scans.{scan_stands}
@@ -64,7 +67,7 @@ module _ (bs rest : List ℕ) (p : ℕ) (e : Entry) (fits : EntryFits e) (stands
   told_back =
       let s₄ = behind bs part (tally_bytes e.account.tally ++ rest) from s₃ in
       let numbers = tally_back bs rest (from + length part) e.account.tally (item_fits e fits).tally s₄ in
-      then_ok _ (then_ok _ numbers (ap or_contradiction (checked-account e.account))) refl
+      then_ok _ (then_ok _ numbers (ap (λ o. ok_or o Contradiction) (checked-account e.account))) refl
 
 -- THE LOOP
 
@@ -102,6 +105,10 @@ told-next : (bs : List ℕ) (b : Bool) (s : Skimmed) (r : Record) (found : Optio
     → option_or (option_map Ok (cond b (Some r) None)) (option_map (told bs) found) ≡ option_map (told bs) (cond b (Some s) found)
 told-next bs true s r found h = ap (λ (x : Result Record Refusal). Some x) (sym h)
 told-next bs false s r found h = refl
+
+-- the later of what was found of part p and an entry, if that is the part's
+abbrev pub later : Option Skimmed → Skimmed → ℕ → Option Skimmed
+later found s p = cond (eqb p s.part) (Some s) found
 
 -- what the next step of the pass comes to
 pub record Steps (bs : List ℕ) (part place : ℕ) (found : Option Skimmed) : Type 0 where
@@ -150,8 +157,14 @@ module _ (bs : List ℕ) (part place : ℕ) (found : Option Skimmed) (so_far : P
   never_fails f h = let s = steps bs part place found so_far l in never s.entry f (sym h ∙ s.skims)
 
   module _ (entry : Skimmed) (h : skim_at bs place ≡ Ok entry) where
-    pub passed_more : (o : Option Skimmed) → o ≡ later found entry part → Passed bs part entry.next o
-    passed_more o e =
+    more : Passed bs part entry.next (later found entry part)
+    more =
         let s = steps bs part place found so_far l in
         let P : Skimmed → Type 0 = λ x. Passed bs part x.next (later found x part) in
-        subst (Passed bs part entry.next) (sym e) (subst P (ok_same _ _ (sym s.skims ∙ h)) s.more)
+        subst P (ok_same _ _ (sym s.skims ∙ h)) s.more
+
+    pub passed_same : entry.part ≡ part → Passed bs part entry.next (Some entry)
+    passed_same e = subst (Passed bs part entry.next) (grind (arith, nat_tests)) more
+
+    pub passed_other : entry.part ≢ part → Passed bs part entry.next found
+    passed_other e = subst (Passed bs part entry.next) (grind (arith, nat_tests)) more

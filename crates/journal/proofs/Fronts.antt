@@ -1,17 +1,9 @@
 -- The front of some bytes, and what is written there.
-use Rattle.std.proofs.Common.{◌≡◌, ℕ, ◌+◌, ◌<◌, ◌≤◌, min, List, [], ◌∷◌, ◌++◌, length, take, drop, set, sym, ap, ◌∙◌, inl, inr, add-one, arith}
+use Rattle.std.proofs.Common.{◌≡◌, ℕ, ◌+◌, ◌<◌, ◌≤◌, List, [], ◌∷◌, ◌++◌, length, take, drop, set, sym, ap, ◌∙◌, inl, inr, add-one, arith}
 use Rattle.std.proofs.lemmas.List.{append_assoc, length-take, length-take-le, take_all, take_at, take-append-drop, take-append-le, drop-append-le, set_split}
 use Rattle.std.proofs.lemmas.Bool.{cases_lt}
 use Rattle.items.specs.Writing.{put}
 use Rattle.items.proofs.Puts.{length-put}
-
--- the first n of a list that may be shorter
-pub take-least : (xs : List ℕ) (n k : ℕ) → k ≡ min (length xs) n → take k xs ≡ take n xs
-take-least xs n k e =
-    elim (cases_lt (length xs) n) [
-      | inl h ↦ take_all k xs (omega arith) ∙ sym (take_all n xs (omega arith))
-      | inr h ↦ ap (λ (j : ℕ). take j xs) (omega arith)
-    ]
 
 pub set_put : (xs : List ℕ) (p b : ℕ) → p < length xs → set xs p b ≡ put xs p (b ∷ [])
 set_put xs p b h = set_split xs p b h ∙ ap (λ (n : ℕ). take p xs ++ b ∷ drop n xs) (sym (add-one p))

@@ -2,5 +2,6 @@ pub mod Entries
 pub mod Scans
 pub mod Finds
 pub mod Fronts
+pub mod Writes
 pub mod Puts
 pub mod Statements

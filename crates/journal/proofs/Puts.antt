@@ -1,25 +1,21 @@
 -- What a put that is taken comes to.
-use Rattle.std.proofs.Common.{◌≡◌, ℕ, ◌+◌, ◌-◌, ◌<◌, ◌≤◌, Bool, true, false, cond, not, ◌&&◌, eqb, List, [], ◌∷◌, ◌++◌, length, take, drop, set, is_some, Some, None, Ok, Err, Option, sym, refl, ap, ◌∙◌, subst, arith}
+use Rattle.std.proofs.Common.{◌≡◌, ℕ, ◌+◌, ◌-◌, ◌<◌, ◌≤◌, Bool, true, false, cond, not, ◌&&◌, eqb, List, [], ◌∷◌, ◌++◌, length, take, drop, set, is_some, Some, Ok, Err, Option, sym, refl, ap, ◌∙◌, subst, arith}
 use mathlib.Core.Path.{fun_ext}
-use borrow.Rule.Slice.PartMut.{put_mid}
 use Rattle.std.specs.List.{flat_map, AllByRecursion}
 use Rattle.std.specs.Option.{option_or}
 use Rattle.std.proofs.ByRecursion.{All-push}
 use Rattle.std.proofs.lemmas.List.{append_assoc, length-append, length-take, length_push, take_at, drop_at, flat_map_more}
-use Rattle.std.proofs.lemmas.Bool.{and_parts, leb-true, cond-true, not_from_true}
-use Rattle.account.specs.declared.account.Account.{Account}
-use Rattle.account.specs.declared.refusal.Refusal.{Refusal}
+use Rattle.std.proofs.lemmas.Bool.{and_parts, leb-true, cond-true}
 use Rattle.account.specs.declared.refusal.Refusal.TheVariants.{Malformed, OutOfRange, StoreRefused}
-use Rattle.items.specs.AccountItems.{account_bytes, part_ok}
-use Rattle.numbers.specs.Numbers.{number_bytes, room_for, written}
-use Rattle.items.specs.Writing.{put, item_of, account_answer, account_left}
-use Rattle.items.proofs.Puts.{put_next, length-put, lent-room, lent-put}
-use Rattle.numbers.proofs.Stands.{ok_same, never}
-use Rattle.items.proofs.Writes.{Writes, writes_whole}
+use Rattle.account.specs.Parts.{part_ok}
+use Rattle.items.specs.Writing.{put}
+use Rattle.items.proofs.Puts.{put_next, length-put}
+use Rattle.store.specs.Bottoms.{in_range}
 use Rattle.store.specs.Meaning.{Record, Took, with_record, version_ok, allows, put_answer}
-use Rattle.journal.specs.Journals.{Entry, EntryFits, Scan, Ends, entry_bytes, entry_at, scan, front_of, entries_of, end_of, has_room, record_of, latest, journal_meaning, in_range, put_bytes}
+use Rattle.journal.specs.declared.entry.Entry.{Entry}
+use Rattle.journal.specs.Journals.{EntryFits, Scan, Ends, entry_bytes, entry_at, scan, front_of, entries_of, end_of, has_room, record_of, latest, journal_meaning, put_bytes}
 use Rattle.journal.specs.JournalSound.{scan_fits}
-use Rattle.journal.proofs.Entries.{entry_length, entry_most}
+use Rattle.journal.proofs.Entries.{entry_most}
 use Rattle.journal.proofs.Fronts.{set_put, put_front}
 use Rattle.journal.proofs.Scans.{scan_back, zero_ends, entries_few}
 
@@ -38,33 +34,17 @@ put_taken bs p v taken =
 
 -- THE BYTES AND WHAT THEY MEAN
 
-module _ (bs : List ℕ) (end p v : ℕ) (a : Account) (ends : Ends (front_of bs) end) (taken : (in_range p v && has_room bs) ≡ true) where
-  abbrev new : Entry
-  new = record { part = p; version = v; account = a }
-
-  abbrev one : List ℕ
-  one = number_bytes v
-
-  abbrev two : List ℕ
-  two = account_bytes (item_of p a)
-
-  ranges : (part_ok p ≡ true) × (version_ok v ≡ true)
-  ranges = and_parts (part_ok p) (version_ok v) (and_parts (in_range p v) (has_room bs) taken).0
-
-  fits : EntryFits new
-  fits = record { version = ranges.1; part = ranges.0 }
+module _ (bs : List ℕ) (end : ℕ) (new : Entry) (ends : Ends (front_of bs) end) (taken : (in_range new.part new.version && has_room bs) ≡ true) where
+  pub fits : EntryFits new
+  fits =
+      let ranges = and_parts (part_ok new.part) (version_ok new.version) (and_parts (in_range new.part new.version) (has_room bs) taken).0 in
+      record { version = ranges.1; part = ranges.0 }
 
   front-room : end + 377 ≤ length (front_of bs)
-  front-room = omega (arith, leb-true 377 (length (front_of bs) - end_of bs) (and_parts (in_range p v) (has_room bs) taken).1, ends.0)
+  front-room = omega (arith, leb-true 377 (length (front_of bs) - end_of bs) (and_parts (in_range new.part new.version) (has_room bs) taken).1, ends.0)
 
-  pub room : end + 377 ≤ length bs
-  room = omega (arith, front-room, length-take 65536 bs)
-
-  short : length one + length two ≤ 376
-  short = omega (arith, entry_length new, entry_most new fits)
-
-  number-room : end + length one ≤ length bs
-  number-room = omega (arith, room, short)
+  pub room : end + length (entry_bytes new) < length bs
+  room = omega (arith, front-room, length-take 65536 bs, entry_most new fits)
 
   abbrev front : List ℕ
   front = front_of bs
@@ -115,17 +95,17 @@ module _ (bs : List ℕ) (end p v : ℕ) (a : Account) (ends : Ends (front_of bs
       scan_back marked (0 ∷ rest) _ (es ++ new ∷ []) (length marked) 0 (All-push EntryFits es new lawful fits) stands few ended
       ∙ ap (λ (n : ℕ). record { entries = es ++ new ∷ []; end = n }) (omega (arith, new-end))
 
-  front-after : front_of (put_bytes bs p v a) ≡ marked
+  front-after : front_of (put_bytes bs new.part new.version new.account) ≡ marked
   front-after =
       let mark = entry_bytes new ++ 0 ∷ [] in
       let len = length_push (entry_bytes new) 0 in
-      ap (take 65536) (cond-true (in_range p v && has_room bs) (put bs (end_of bs) mark) bs taken ∙ ap (λ (n : ℕ). put bs n mark) (sym ends.0))
+      ap (take 65536) (cond-true (in_range new.part new.version && has_room bs) (put bs (end_of bs) mark) bs taken ∙ ap (λ (n : ℕ). put bs n mark) (sym ends.0))
       ∙ put_front bs 65536 end mark (omega (arith, front-room, entry_most new fits))
 
-  new-scan : scan (front_of (put_bytes bs p v a)) ≡ record { entries = es ++ new ∷ []; end = new_last }
+  new-scan : scan (front_of (put_bytes bs new.part new.version new.account)) ≡ record { entries = es ++ new ∷ []; end = new_last }
   new-scan = ap scan front-after ∙ scanned
 
-  end_moves : Ends (front_of (put_bytes bs p v a)) new_last
+  end_moves : Ends (front_of (put_bytes bs new.part new.version new.account)) new_last
   end_moves = (
     sym (ap (λ (s : Scan). s.end) new-scan),
     ap (take new_last) (front-after ∙ stands) ∙ take_at (flat_map entry_bytes (es ++ new ∷ [])) (0 ∷ rest) new_last new-end
@@ -137,80 +117,32 @@ module _ (bs : List ℕ) (end p v : ℕ) (a : Account) (ends : Ends (front_of bs
   or_cond true r o d = refl
   or_cond false r o d = refl
 
-  latest_push : (xs : List Entry) (q : ℕ) → latest (xs ++ new ∷ []) q ≡ with_record (latest xs) p v a q
+  latest_push : (xs : List Entry) (q : ℕ) → latest (xs ++ new ∷ []) q ≡ with_record (latest xs) new.part new.version new.account q
   latest_push [] q = refl
   latest_push (x ∷ xs) q =
-      ap (λ o. option_or o (record_of x q)) (latest_push xs q) ∙ or_cond (eqb q p) (record { version = v; account = a }) (latest xs q) (record_of x q)
+      ap (λ o. option_or o (record_of x q)) (latest_push xs q) ∙ or_cond (eqb q new.part) (record { version = new.version; account = new.account }) (latest xs q) (record_of x q)
 
-  meaning_after : Took (journal_meaning bs) p v a (journal_meaning (put_bytes bs p v a))
+  meaning_after : Took (journal_meaning bs) new.part new.version new.account (journal_meaning (put_bytes bs new.part new.version new.account))
   meaning_after = record {
     greatest = refl;
     records = fun_ext (λ q. ap (λ (s : Scan). latest s.entries q) new-scan ∙ latest_push es q);
     layer = refl;
   }
 
-  -- HOW THEY ARE WRITTEN
+  -- the zero byte behind the entry
+  module _ (zs : List ℕ) (next : ℕ) (wrote : zs ≡ put bs end (entry_bytes new)) (at : next ≡ end + length (entry_bytes new)) where
+    pub zero-inside : next < length zs
+    zero-inside =
+        let long : length zs ≡ length bs = ap length wrote ∙ length-put bs end (entry_bytes new) (omega (arith, room)) in
+        omega (arith, room)
 
-  -- what the writer of the number answers and leaves of the part that it is lent
-  abbrev lent : List ℕ
-  lent = take (length bs - end) (drop end bs)
+    bytes_after : set zs next 0 ≡ put_bytes bs new.part new.version new.account
+    bytes_after =
+        put_next bs zs (set zs next 0) end next (entry_bytes new) (0 ∷ []) (omega (arith, room)) at wrote (set_put zs next 0 zero-inside)
+        ∙ ap (λ (n : ℕ). put bs n (entry_bytes new ++ 0 ∷ [])) ends.0
+        ∙ sym (cond-true (in_range new.part new.version && has_room bs) (put bs (end_of bs) (entry_bytes new ++ 0 ∷ [])) bs taken)
 
-  pub number_never : None ≡ room_for lent v → ⊥
-  number_never h =
-      let bad : None ≡ Some (length one) = h ∙ lent-room bs end v number-room in
-      let z : ◌≡◌ {A = ℕ} 0 1 = cc in
-      omega arith
-
-  used_is : (used : ℕ) → Some used ≡ room_for lent v → used ≡ length one
-  used_is used h = let e : Some used ≡ Some (length one) = h ∙ lent-room bs end v number-room in cc
-
-  pub number-inside : (used : ℕ) → Some used ≡ room_for lent v → end + used ≤ length bs
-  number-inside used h = omega (arith, used_is used h, number-room)
-
-  -- then what the writer of the account does
-  module _ (used : ℕ) (told : Some used ≡ room_for lent v) (out : List ℕ) (wrote : out ≡ written lent v) where
-    abbrev ys : List ℕ
-    ys = put_mid end (length bs - end) bs out
-
-    first : ys ≡ put bs end one
-    first = lent-put bs end v number-room out wrote
-
-    next : end + used ≡ end + length one
-    next = ap (λ (n : ℕ). end + n) (used_is used told)
-
-    as_long : length ys ≡ length bs
-    as_long = ap length first ∙ length-put bs end one number-room
-
-    whole : Writes (not (part_ok p)) ys (end + used) two (Ok (length two)) (put ys (end + used) two)
-    whole = writes_whole (not (part_ok p)) ys (end + used) two (not_from_true (part_ok p) ranges.0) (omega (arith, as_long, number-room, next)) (length two) (put ys (end + used) two) (omega (arith, as_long, room, short, next)) refl refl
-
-    pub account_never : (f : Refusal) → Err f ≡ account_answer ys (end + used) p a → ⊥
-    account_never f h = never (length two) f (h ∙ sym whole.answer)
-
-    -- and the zero byte
-    module _ (len : ℕ) (answer : Ok len ≡ account_answer ys (end + used) p a) (zs : List ℕ) (left : zs ≡ account_left ys (end + used) p a) where
-      abbrev last : ℕ
-      last = end + used + len
-
-      last-is : last ≡ end + length (entry_bytes new)
-      last-is = omega (arith, ok_same _ _ (answer ∙ sym whole.answer), next, entry_length new)
-
-      both : zs ≡ put bs end (entry_bytes new)
-      both = put_next bs ys zs end (end + used) one two (omega (arith, room)) next first (left ∙ sym whole.bytes)
-
-      pub zero-inside : (last < length zs) × (last ≤ length bs)
-      zero-inside =
-          let long : length zs ≡ length bs = ap length both ∙ length-put bs end (entry_bytes new) (omega (arith, room, entry_most new fits)) in
-          let most = entry_most new fits in
-          (omega (arith, room, last-is), omega (arith, room, last-is))
-
-      bytes_after : set zs last 0 ≡ put_bytes bs p v a
-      bytes_after =
-          put_next bs zs (set zs last 0) end last (entry_bytes new) (0 ∷ []) (omega (arith, room)) last-is both (set_put zs last 0 zero-inside.0)
-          ∙ ap (λ (n : ℕ). put bs n (entry_bytes new ++ 0 ∷ [])) ends.0
-          ∙ sym (cond-true (in_range p v && has_room bs) (put bs (end_of bs) (entry_bytes new ++ 0 ∷ [])) bs taken)
-
-      pub appended : Ends (front_of (set zs last 0)) last × (set zs last 0 ≡ put_bytes bs p v a) × Took (journal_meaning bs) p v a (journal_meaning (set zs last 0))
-      appended =
-          let P : List ℕ → ℕ → Type 0 = λ x n. Ends (front_of x) n × (x ≡ put_bytes bs p v a) × Took (journal_meaning bs) p v a (journal_meaning x) in
-          subst (λ (x : List ℕ). P x last) (sym bytes_after) (subst (P (put_bytes bs p v a)) (sym last-is) (end_moves, refl, meaning_after))
+    pub appended : Ends (front_of (set zs next 0)) next × (set zs next 0 ≡ put_bytes bs new.part new.version new.account) × Took (journal_meaning bs) new.part new.version new.account (journal_meaning (set zs next 0))
+    appended =
+        let P : List ℕ → ℕ → Type 0 = λ x n. Ends (front_of x) n × (x ≡ put_bytes bs new.part new.version new.account) × Took (journal_meaning bs) new.part new.version new.account (journal_meaning x) in
+        subst (λ (x : List ℕ). P x next) (sym bytes_after) (subst (P (put_bytes bs new.part new.version new.account)) (sym at) (end_moves, refl, meaning_after))

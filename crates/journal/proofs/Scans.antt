@@ -1,17 +1,19 @@
 -- The scan of a journal: what stands before its end, and what reads back.
 use Rattle.std.proofs.Common.{◌≡◌, ℕ, zero, suc, ◌+◌, ◌<◌, ◌≤◌, List, [], ◌∷◌, ◌++◌, length, get_or, take, drop, Ok, Err, Result, sym, refl, ap, ◌∙◌, arith, w8, Fits}
 use Rattle.std.specs.List.{flat_map, AllByRecursion}
+use Rattle.std.specs.Option.{ok_or}
 use Rattle.std.proofs.ByRecursion.{All-from_get_or}
 use Rattle.std.proofs.lemmas.List.{append_assoc, length-append, length-drop, take_at}
 use Rattle.account.specs.declared.refusal.Refusal.{Refusal}
-use Rattle.account.specs.declared.refusal.Refusal.TheVariants.{Malformed}
+use Rattle.account.specs.declared.refusal.Refusal.TheVariants.{Malformed, Contradiction}
 use Rattle.account.specs.Accounts.{checked}
 use Rattle.items.specs.AccountItems.{account_at}
 use Rattle.numbers.specs.Numbers.{number_bytes}
 use Rattle.numbers.specs.Reading.{and_then, Bytes, Stand}
 use Rattle.numbers.proofs.Codecs.{number_back}
-use Rattle.numbers.proofs.Stands.{behind, stand_join, then_ok, then_inv, ok_same, never}
-use Rattle.journal.specs.Journals.{Entry, EntryFits, entry_bytes, version_at, or_contradiction, entry_at, entry_end, Scan, ended, onward, scan_from, scan, Ends}
+use Rattle.numbers.proofs.Stands.{behind, stand_join, then_ok, never}
+use Rattle.journal.specs.declared.entry.Entry.{Entry}
+use Rattle.journal.specs.Journals.{EntryFits, entry_bytes, version_at, entry_at, Scan, ended, onward, scan_from, scan, Ends}
 use Rattle.journal.proofs.Entries.{entry_some, entry_back, entry_only}
 
 -- the bytes of a slice
@@ -74,7 +76,7 @@ pub zero_ends : (bs rest : List ℕ) (p : ℕ) → drop p bs ≡ 0 ∷ rest → 
 unfolding entry_at number_bytes
 zero_ends bs rest p h =
     let none : version_at bs p ≡ Err (Malformed p) = then_ok _ (number_back bs rest p 0 (omega arith) h) refl in
-    let F : ℕ × ℕ → Result (Entry × ℕ) Refusal = λ v. and_then (account_at bs v.1) (λ i. and_then (or_contradiction (checked i.0.tally)) (λ a. Ok (record { part = i.0.part; version = v.0; account = a }, i.1))) in
+    let F : ℕ × ℕ → Result (Entry × ℕ) Refusal = λ v. and_then (account_at bs v.1) (λ i. and_then (ok_or (checked i.0.tally) Contradiction) (λ a. Ok (record { part = i.0.part; version = v.0; account = a }, i.1))) in
     ap (λ (v : Result (ℕ × ℕ) Refusal). and_then v F) none
 
 module _ (bs rest : List ℕ) (f : Refusal) where
@@ -102,40 +104,27 @@ entries_few (e ∷ es) = omega (arith, entries_few es, entry_some e, length-appe
 
 -- it has come to place p, and the rest has the same end
 pub record Walked (bs : List ℕ) (p : ℕ) : Type 0 where
+  pub all : Bytes bs
   pub left : ℕ
   pub enough : length bs ≤ left + p
   pub inside : p ≤ length bs
   pub same : (scan_from left bs p).end ≡ (scan bs).end
 
-pub walked_none : (bs : List ℕ) → Walked bs 0
-walked_none bs = record { left = length bs; enough = omega arith; inside = omega arith; same = refl }
-
-end_ok : (r : Result (Entry × ℕ) Refusal) (q : ℕ) → and_then r (λ e. Ok e.1) ≡ Ok q → (e : Entry) × (r ≡ Ok (e, q))
-end_ok r q h =
-    let t = then_inv r _ q h in
-    (t.0.0, t.1 ∙ ap (λ (n : ℕ). Ok (t.0.0, n)) (ok_same _ _ t.2))
-
-end_err : (r : Result (Entry × ℕ) Refusal) (f : Refusal) → and_then r (λ e. Ok e.1) ≡ Err f → (g : Refusal) × (r ≡ Err g)
-end_err (Ok e) f h = absurd (never e.1 f (sym h))
-end_err (Err g) f h = (g, refl)
-
-pub end_after : (bs : List ℕ) (p q : ℕ) → Bytes bs → entry_end bs p ≡ Ok q → (p < q) × (q ≤ length bs)
-end_after bs p q all h = let e = end_ok (entry_at bs p) q h in entry_takes bs p q e.0 all e.1
+pub walked_none : (bs : List ℕ) → Bytes bs → Walked bs 0
+walked_none bs all = record { all = all; left = length bs; enough = omega arith; inside = omega arith; same = refl }
 
 fewer : (k : ℕ) (bs : List ℕ) (p q : ℕ) (e : Entry) → 0 < k → entry_at bs p ≡ Ok (e, q) → (j : ℕ) × (k ≡ suc j) × ((scan_from k bs p).end ≡ (scan_from j bs q).end)
 fewer zero bs p q e l h = absurd (let z : 0 < 0 = l in omega arith)
 fewer (suc k) bs p q e l h = (k, refl, ap (λ (s : Scan). s.end) (step k bs p (e, q) h))
 
-pub walked_more : (bs : List ℕ) (p q : ℕ) → Bytes bs → entry_end bs p ≡ Ok q → Walked bs p → Walked bs q
-walked_more bs p q all h w =
-    let e = end_ok (entry_at bs p) q h in
-    let t = entry_takes bs p q e.0 all e.1 in
-    let j = fewer w.left bs p q e.0 (omega (arith, w.enough, t.0, t.1)) e.1 in
-    record { left = j.0; enough = omega (arith, w.enough, j.1, t.0); inside = t.1; same = sym j.2 ∙ w.same }
+pub walked_more : (bs : List ℕ) (p q : ℕ) (e : Entry) → entry_at bs p ≡ Ok (e, q) → Walked bs p → Walked bs q
+walked_more bs p q e h w =
+    let t = entry_takes bs p q e w.all h in
+    let j = fewer w.left bs p q e (omega (arith, w.enough, t.0, t.1)) h in
+    record { all = w.all; left = j.0; enough = omega (arith, w.enough, j.1, t.0); inside = t.1; same = sym j.2 ∙ w.same }
 
-pub walked_all : (bs : List ℕ) (p : ℕ) (f : Refusal) → Bytes bs → entry_end bs p ≡ Err f → Walked bs p → Ends bs p
-walked_all bs p f all h w =
-    let g = end_err (entry_at bs p) f h in
-    let end : p ≡ (scan bs).end = sym (ap (λ (s : Scan). s.end) (stop w.left bs p g.0 g.1)) ∙ w.same in
-    let stands = (scan_stands bs all (length bs) 0).1 in
+pub walked_all : (bs : List ℕ) (p : ℕ) (f : Refusal) → entry_at bs p ≡ Err f → Walked bs p → Ends bs p
+walked_all bs p f h w =
+    let end : p ≡ (scan bs).end = sym (ap (λ (s : Scan). s.end) (stop w.left bs p f h)) ∙ w.same in
+    let stands = (scan_stands bs w.all (length bs) 0).1 in
     (end, ap (take p) stands.here ∙ take_at (flat_map entry_bytes (scan bs).entries) (drop (scan bs).end bs) p (omega (arith, stands.after)))

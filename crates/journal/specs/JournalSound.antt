@@ -1,20 +1,24 @@
 -- A journal keeps the ranges of a store, whatever its bytes are.
-use Rattle.std.specs.Prelude.{◌≡◌, ℕ, zero, suc, Bool, true, false, cond, List, [], ◌∷◌, take, IfSome, Some, None, Ok, Err, Option, Result, ◌==◌, refl}
-use Rattle.std.proofs.Common.{ap, sym, subst, arith}
-use Rattle.std.proofs.lemmas.Bool.{both_ways, eqb-true}
-use Rattle.std.specs.Option.{option_or}
+use Rattle.std.specs.Prelude.{◌≡◌, ℕ, zero, suc, Bool, true, false, cond, List, [], ◌∷◌, take, Some, None, Ok, Err, Option, Result, ◌==◌, refl}
+use Rattle.std.proofs.Common.{ap, sym, subst}
+use Rattle.std.proofs.lemmas.Bool.{and_from, eqb-true}
+use Rattle.std.specs.Option.{ok_or, option_or}
 use Rattle.std.specs.List.{AllByRecursion}
 use Rattle.account.specs.Accounts.{checked}
 use Rattle.account.specs.declared.refusal.Refusal.{Refusal}
-use Rattle.account.specs.declared.refusal.Refusal.TheVariants.{Malformed}
-use Rattle.items.specs.AccountItems.{part_ok, part_at, tally_at, numbers_at, of_account, in_body, account_at}
+use Rattle.account.specs.declared.refusal.Refusal.TheVariants.{Malformed, Contradiction}
+use Rattle.account.specs.Parts.{part_ok}
+use Rattle.items.specs.AccountItems.{part_at, tally_at, numbers_at, of_account, in_body, account_at}
 use Rattle.items.specs.Items.{kind_at, body_at}
 use Rattle.numbers.specs.Numbers.{number_at}
 use Rattle.items.specs.declared.item.AccountItem.{AccountItem}
 use Rattle.items.specs.declared.item.Kind.TheVariants.{Account}
 use Rattle.numbers.proofs.Stands.{then_inv, ok_same, passed}
+use Rattle.store.specs.Bottoms.{Ranged}
+use Rattle.store.specs.BottomSound.{bottom_sound}
 use Rattle.store.specs.Meaning.{Record, Sound, version_ok}
-use Rattle.journal.specs.Journals.{Entry, EntryFits, version_at, entry_at, or_contradiction, onward, scan_from, record_of, latest, entries_of, journal_meaning}
+use Rattle.journal.specs.declared.entry.Entry.{Entry}
+use Rattle.journal.specs.Journals.{EntryFits, version_at, entry_at, onward, scan_from, record_of, latest, entries_of, has_room, journal_meaning}
 
 -- WHAT IS READ IS IN RANGE
 
@@ -39,12 +43,12 @@ item_read bs p q i h =
     let P : AccountItem × ℕ → Type 0 = λ y. part_ok y.0.part ≡ true in
     subst P last.1 (part_read (take b.0.end bs) b.0.from n.0.1 n.0.0 n.1)
 
-entry_read : (bs : List ℕ) (p q : ℕ) (e : Entry) → entry_at bs p ≡ Ok (e, q) → EntryFits e
+pub entry_read : (bs : List ℕ) (p q : ℕ) (e : Entry) → entry_at bs p ≡ Ok (e, q) → EntryFits e
 unfolding entry_at
 entry_read bs p q e h =
     let v = then_inv (version_at bs p) _ (e, q) h in
     let i = then_inv (account_at bs v.0.1) _ (e, q) v.2 in
-    let a = then_inv (or_contradiction (checked i.0.0.tally)) _ (e, q) i.2 in
+    let a = then_inv (ok_or (checked i.0.0.tally) Contradiction) _ (e, q) i.2 in
     let g = then_inv (number_at bs p) _ v.0 v.1 in
     let ok = passed (version_ok g.0.0) g.0 v.0 (Malformed p) g.2 in
     let P : ℕ × ℕ → Type 0 = λ y. version_ok y.0 ≡ true in
@@ -62,39 +66,19 @@ unfolding scan_from
 scan_fits zero bs p = tt
 scan_fits (suc k) bs p = onward_fits k bs p (entry_at bs p) refl (λ q. scan_fits k bs q)
 
--- a record of part p that a store may have
-abbrev Sane : ℕ → Option Record → Type 0
-Sane p o = IfSome o (λ r. (part_ok p ≡ true) × (version_ok r.version ≡ true))
+or_ranged : (p : ℕ) (a b : Option Record) → Ranged p a → Ranged p b → Ranged p (option_or a b)
+or_ranged p None b s t = t
+or_ranged p (Some r) b s t = s
 
-or_sane : (p : ℕ) (a b : Option Record) → Sane p a → Sane p b → Sane p (option_or a b)
-or_sane p None b s t = t
-or_sane p (Some r) b s t = s
-
-record_sane : (e : Entry) (p : ℕ) (b : Bool) → (p == e.part) ≡ b → EntryFits e → Sane p (cond b (Some (record { version = e.version; account = e.account })) None)
-record_sane e p true h f =
+record_ranged : (e : Entry) (p : ℕ) (b : Bool) → (p == e.part) ≡ b → EntryFits e → Ranged p (cond b (Some (record { version = e.version; account = e.account })) None)
+record_ranged e p true h f =
     let P : ℕ → Type 0 = λ x. part_ok x ≡ true in
-    (subst P (sym (eqb-true p e.part h)) f.part, f.version)
-record_sane e p false h f = tt
+    and_from (part_ok p) (version_ok e.version) (subst P (sym (eqb-true p e.part h)) f.part) f.version
+record_ranged e p false h f = tt
 
-latest_sane : (es : List Entry) (p : ℕ) → AllByRecursion EntryFits es → Sane p (latest es p)
-latest_sane [] p f = tt
-latest_sane (e ∷ es) p f = or_sane p (latest es p) (record_of e p) (latest_sane es p f.1) (record_sane e p (p == e.part) refl f.0)
-
-none_outside : (p : ℕ) (o : Option Record) → Sane p o → part_ok p ≡ false → o ≡ None
-none_outside p None s e = refl
-none_outside p (Some r) s e = absurd (both_ways (part_ok p) e s.0)
-
-dated : (p : ℕ) (o : Option Record) → Sane p o → IfSome o (λ r. version_ok r.version ≡ true)
-dated p None s = tt
-dated p (Some r) s = s.1
+latest_ranged : (es : List Entry) (p : ℕ) → AllByRecursion EntryFits es → Ranged p (latest es p)
+latest_ranged [] p f = tt
+latest_ranged (e ∷ es) p f = or_ranged p (latest es p) (record_of e p) (latest_ranged es p f.1) (record_ranged e p (p == e.part) refl f.0)
 
 pub journal_sound : (bs : List ℕ) → Sound (journal_meaning bs)
-journal_sound bs =
-    let sane : (p : ℕ) → Sane p (latest (entries_of bs) p) = λ p. latest_sane (entries_of bs) p (scan_fits _ _ 0) in
-    record {
-      small = omega arith;
-      inside = λ p e. none_outside p (latest (entries_of bs) p) (sane p) e;
-      versions = λ p. dated p (latest (entries_of bs) p) (sane p);
-      refuser = omega arith;
-      own = omega arith;
-    }
+journal_sound bs = bottom_sound (latest (entries_of bs)) (has_room bs) (has_room bs) (λ p. latest_ranged (entries_of bs) p (scan_fits _ _ 0))

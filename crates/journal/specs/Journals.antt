@@ -1,26 +1,23 @@
 -- What the bytes of a journal mean.
 use Rattle.std.specs.Prelude.{◌≡◌, ℕ, zero, suc, ◌-◌, ◌<◌, Bool, true, cond, ◌&&◌, List, [], ◌∷◌, ◌++◌, length, take, Some, None, Ok, Err, Option, Result, ◌==◌, ◌≢◌, nat_le, slice_set}
 use Rattle.std.specs.List.{flat_map, AllByRecursion}
-use Rattle.std.specs.Option.{option_or}
+use Rattle.std.specs.Option.{ok_or, option_or}
 use Rattle.account.specs.Accounts.{checked}
 use Rattle.account.specs.declared.account.Account.{Account}
 use Rattle.account.specs.declared.refusal.Refusal.{Refusal}
 use Rattle.account.specs.declared.refusal.Refusal.TheVariants.{Malformed, Contradiction}
-use Rattle.items.specs.AccountItems.{account_bytes, account_at, part_ok, part_at, tally_at}
+use Rattle.account.specs.Parts.{part_ok}
+use Rattle.items.specs.AccountItems.{account_bytes, account_at, part_at, tally_at}
 use Rattle.items.specs.Items.{kind_at, body_at}
 use Rattle.numbers.specs.Numbers.{number_bytes, number_at}
 use Rattle.numbers.specs.Reading.{Reading, and_then, Bytes}
 use Rattle.items.specs.Writing.{put, item_of}
+use Rattle.store.specs.Bottoms.{in_range, bottom}
 use Rattle.store.specs.Meaning.{Meaning, Record, version_ok}
+use Rattle.journal.specs.declared.entry.Entry.{Entry}
 use Rattle.journal.specs.declared.skim.Skimmed.{Skimmed}
 
 -- AN ENTRY
-
--- a version of a part's account
-pub record Entry : Type 0 where
-  pub part : ℕ
-  pub version : ℕ
-  pub account : Account
 
 -- the version, and then the account as an item
 abbrev pub entry_bytes : Entry → List ℕ
@@ -29,20 +26,11 @@ entry_bytes e = number_bytes e.version ++ account_bytes (item_of e.part e.accoun
 abbrev pub version_at : Reading ℕ
 version_at bs p = and_then (number_at bs p) (λ v. cond (version_ok v.0) (Ok v) (Err (Malformed p)))
 
--- an account, where no free stock is negative
-abbrev pub or_contradiction : Option Account → Result Account Refusal
-or_contradiction (Some a) = Ok a
-or_contradiction None = Err Contradiction
-
 -- the whole and lawful entry at a place
 unfoldable pub entry_at : Reading Entry
 entry_at bs p =
-    and_then (version_at bs p) (λ v. and_then (account_at bs v.1) (λ i. and_then (or_contradiction (checked i.0.tally))
+    and_then (version_at bs p) (λ v. and_then (account_at bs v.1) (λ i. and_then (ok_or (checked i.0.tally) Contradiction)
     (λ a. Ok (record { part = i.0.part; version = v.0; account = a }, i.1))))
-
--- the place after it
-abbrev pub entry_end : List ℕ → ℕ → Result ℕ Refusal
-entry_end bs p = and_then (entry_at bs p) (λ e. Ok e.1)
 
 -- ALL ENTRIES
 
@@ -98,22 +86,11 @@ latest [] p = None
 latest (e ∷ es) p = option_or (latest es p) (record_of e p)
 
 abbrev pub journal_meaning : List ℕ → Meaning
-journal_meaning bs = record {
-  greatest = 100000;
-  records = latest (entries_of bs);
-  rewrites = has_room bs;
-  takes_new = has_room bs;
-  refusing = 0;
-  layer = 0;
-}
+journal_meaning bs = bottom (latest (entries_of bs)) (has_room bs) (has_room bs)
 
 -- the bytes of a journal that is started: a zero byte in front, if there is a byte, since no entry has version 0
 abbrev pub started : List ℕ → List ℕ
 started bs = slice_set bs 0 0
-
--- the numbers that an entry may have
-abbrev pub in_range : ℕ → ℕ → Bool
-in_range p v = part_ok p && version_ok v
 
 -- the bytes after a put: the new entry and a zero byte stand from the end on; a put that is refused leaves all as they were
 abbrev pub put_bytes : List ℕ → ℕ → ℕ → Account → List ℕ
@@ -128,13 +105,9 @@ skim_at bs p =
     and_then (number_at bs p) (λ v. and_then (kind_at bs v.1) (λ k. and_then (body_at bs k.0 k.1) (λ b. and_then (part_at bs b.from)
     (λ n. Ok (record { part = n.0; version = v.0; numbers = n.1; next = b.end })))))
 
--- the later of what was found of part p and an entry, if that is the part's
-abbrev pub later : Option Skimmed → Skimmed → ℕ → Option Skimmed
-later found s p = cond (p == s.part) (Some s) found
-
 -- the account of an entry that was passed over
 abbrev pub account_told : List ℕ → Skimmed → Result Account Refusal
-account_told bs s = and_then (tally_at bs s.numbers) (λ t. or_contradiction (checked t.0))
+account_told bs s = and_then (tally_at bs s.numbers) (λ t. ok_or (checked t.0) Contradiction)
 
 -- and its record
 abbrev pub told : List ℕ → Skimmed → Result Record Refusal

@@ -1,42 +1,23 @@
 // An entry of a journal: a version and then an account item.
-ghost use Rattle.std.specs.Prelude.{◌≡◌, true, ◌&&◌};
-ghost use Rattle.store.specs.Meaning.{version_ok, Took};
-ghost use Rattle.journal.specs.Journals.{in_range, version_at, entry_end, Ends, front_of, has_room, put_bytes, journal_meaning};
+ghost use Rattle.std.specs.Prelude.{◌≡◌, ◌+◌, ◌≤◌, true, ◌&&◌, length};
+ghost use Rattle.items.specs.Writing.{put};
+ghost use Rattle.store.specs.Bottoms.{in_range};
+ghost use Rattle.store.specs.Meaning.{Took};
+ghost use Rattle.journal.specs.Journals.{EntryFits, entry_bytes, version_at, entry_at, Ends, front_of, has_room, put_bytes, journal_meaning};
 
 use account::account::Account;
 use account::refusal::Refusal;
 use items::read::read_account_at;
 use items::write::write_account;
 use numbers::number::{read_number, write_number};
+use store::bottom::version_ok;
 
-// How many bytes a journal uses.
-const USED: usize = 65_536;
-
-// The greatest part of a journal.
-pub(crate) const GREATEST: u32 = 100_000;
-
-const LAST_VERSION: u32 = 1_000_000_000;
-
-// May an entry have this version?
-fn version_ok(version: u32) -> bool
-    ensures { result ≡ version_ok version }
-{
-    1 <= version && version <= LAST_VERSION
-}
-
-// May an entry have these numbers?
-pub(crate) fn in_range(part: u32, version: u32) -> bool
-    ensures { result ≡ in_range part version }
-{
-    1 <= part && part <= GREATEST && version_ok(version)
-}
-
-// The bytes that a journal uses.
-pub(crate) fn front(bytes: &[u8]) -> &[u8]
-    ensures { result.now ≡ front_of bytes.now }
-{
-    let used = bytes.len().min(USED);
-    &bytes[0..used]
+// A version of a part's account.
+#[derive(Clone, Copy)]
+pub(crate) struct Entry {
+    pub(crate) part: u32,
+    pub(crate) version: u32,
+    pub(crate) account: Account,
 }
 
 // The version at a place, and the place after it.
@@ -50,16 +31,22 @@ fn read_version(bytes: &[u8], place: usize) -> Result<(u32, usize), Refusal>
     Ok((version, next))
 }
 
-// The place after the whole and lawful entry at a place.
-fn entry_end(bytes: &[u8], place: usize) -> Result<usize, Refusal>
-    ensures { result ≡ entry_end bytes.now place }
+// The whole and lawful entry at a place, and the place after it.
+#[tactic(auto, unfolding(crate::specs::Journals::entry_at))]
+fn read_entry(bytes: &[u8], place: usize) -> Result<(Entry, usize), Refusal>
+    ensures { result ≡ entry_at bytes.now place }
 {
-    let (_, next) = read_version(bytes, place)?;
+    let (version, next) = read_version(bytes, place)?;
     let (item, next) = read_account_at(bytes, next)?;
-    match item.tally.check() {
-        Some(_) => Ok(next),
-        None => Err(Refusal::Contradiction),
-    }
+    let account = item.tally.check().ok_or(Refusal::Contradiction)?;
+    Ok((
+        Entry {
+            part: item.part,
+            version,
+            account,
+        },
+        next,
+    ))
 }
 
 // The place where no whole and lawful entry begins any more.
@@ -67,33 +54,37 @@ pub(crate) fn find_end(bytes: &[u8]) -> usize
     ensures { Ends bytes.now result }
 {
     let mut end = 0;
-    while let Ok(next) = entry_end(bytes, end) {
+    while let Ok((_, next)) = read_entry(bytes, end) {
         end = next;
     }
     end
 }
 
-// Writes a new entry at the end of a journal, and a zero byte after it. Answers the new end.
-pub(crate) fn append(
-    bytes: &mut [u8],
-    end: usize,
-    part: u32,
-    version: u32,
-    account: &Account,
-) -> usize
-    requires ends { Ends (front_of bytes.old) end }
-    requires taken { (in_range part version && has_room bytes.old) ≡ true }
-    ensures ends { Ends (front_of bytes.new) result }
-    ensures bytes { bytes.new ≡ put_bytes bytes.old part version account.now }
-    ensures meaning { Took (journal_meaning bytes.old) part version account.now (journal_meaning bytes.new) }
+// Writes an entry at a place. Answers the place after it.
+fn write_entry(bytes: &mut [u8], place: usize, entry: &Entry) -> usize
+    requires fits { EntryFits entry.now }
+    requires room { place + length (entry_bytes entry.now) ≤ length bytes.old }
+    ensures next { result ≡ place + length (entry_bytes entry.now) }
+    ensures bytes { bytes.new ≡ put bytes.old place (entry_bytes entry.now) }
 {
-    let Some(used) = write_number(&mut bytes[end..], version) else {
+    let Some(used) = write_number(&mut bytes[place..], entry.version) else {
         unreachable()
     };
-    let Ok(length) = write_account(bytes, end + used, part, account) else {
+    let Ok(length) = write_account(bytes, place + used, entry.part, &entry.account) else {
         unreachable()
     };
-    let next = end + used + length;
+    place + used + length
+}
+
+// Writes an entry at the end of a journal, and a zero byte after it. Answers the new end.
+pub(crate) fn append(bytes: &mut [u8], end: usize, entry: &Entry) -> usize
+    requires ends { Ends (front_of bytes.old) end }
+    requires taken { (in_range entry.now.part entry.now.version && has_room bytes.old) ≡ true }
+    ensures ends { Ends (front_of bytes.new) result }
+    ensures bytes { bytes.new ≡ put_bytes bytes.old entry.now.part entry.now.version entry.now.account }
+    ensures meaning { Took (journal_meaning bytes.old) entry.now.part entry.now.version entry.now.account (journal_meaning bytes.new) }
+{
+    let next = write_entry(bytes, end, entry);
     bytes[next] = 0;
     next
 }

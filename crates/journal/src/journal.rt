@@ -4,6 +4,9 @@ ghost use Rattle.journal.specs.Journals.{front_of, Ends};
 pub mod keep;
 pub mod make;
 
+// How many bytes a journal uses.
+const USED: usize = 65_536;
+
 // The records are those of the entries in the bytes.
 #[derive(Drop)]
 pub struct Journal<'a> {

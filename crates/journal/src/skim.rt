@@ -1,7 +1,7 @@
 // Passing over entries by their lengths, to find the latest of a part.
 ghost use Rattle.std.specs.Prelude.{◌≡◌, Ok};
 ghost use Rattle.std.specs.Option.{option_map};
-ghost use Rattle.journal.specs.Journals.{scan, Ends, latest, skim_at, later, account_told, told};
+ghost use Rattle.journal.specs.Journals.{scan, Ends, latest, skim_at, account_told, told};
 
 use account::account::Account;
 use account::refusal::Refusal;
@@ -34,17 +34,6 @@ fn skim(bytes: &[u8], place: usize) -> Result<Skimmed, Refusal>
     })
 }
 
-// The later of what was found of a part and an entry, if that is the part's.
-fn later(found: Option<Skimmed>, entry: Skimmed, part: u32) -> Option<Skimmed>
-    ensures { result ≡ later found entry part }
-{
-    if entry.part == part {
-        Some(entry)
-    } else {
-        found
-    }
-}
-
 // The latest entry of a part, among those that stand before the end.
 pub(crate) fn find_latest(bytes: &[u8], end: usize, part: u32) -> Option<Skimmed>
     requires { Ends bytes.now end }
@@ -56,16 +45,20 @@ pub(crate) fn find_latest(bytes: &[u8], end: usize, part: u32) -> Option<Skimmed
         let Ok(entry) = skim(bytes, place) else {
             unreachable()
         };
-        found = later(found, entry, part);
+        if entry.part == part {
+            found = Some(entry);
+        }
         place = entry.next;
     }
     found
 }
 
-// The account of an entry that was passed over.
-pub(crate) fn read_out(bytes: &[u8], entry: Skimmed) -> Result<Account, Refusal>
-    ensures { result ≡ account_told bytes.now entry }
-{
-    let (tally, _) = read_tally(bytes, entry.numbers)?;
-    tally.check().ok_or(Refusal::Contradiction)
+impl Skimmed {
+    // The account of the entry.
+    pub(crate) fn account(self, bytes: &[u8]) -> Result<Account, Refusal>
+        ensures { result ≡ account_told bytes.now self }
+    {
+        let (tally, _) = read_tally(bytes, self.numbers)?;
+        tally.check().ok_or(Refusal::Contradiction)
+    }
 }

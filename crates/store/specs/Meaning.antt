@@ -1,8 +1,10 @@
 -- What a store means: the promise of every store, and all that a depot knows of the one below it.
 use Rattle.std.specs.Prelude.{◌≡◌, ℕ, ◌≤◌, Bool, true, false, cond, not, ◌&&◌, List, [], ◌∷◌, is_some, IfSome, Some, None, Ok, Err, Option, Result, ◌==◌, nat_le}
+use Rattle.account.specs.Parts.{last_part}
 use Rattle.account.specs.declared.account.Account.{Account}
 use Rattle.account.specs.declared.refusal.Refusal.{Refusal}
 use Rattle.account.specs.declared.refusal.Refusal.TheVariants.{OutOfRange, StoreRefused}
+use Rattle.account.specs.Tallies.{limit}
 use Rattle.account.specs.Refusals.{Check, refuse, unless}
 
 -- what is kept of a part
@@ -25,15 +27,15 @@ abbrev pub part_ok : Meaning → ℕ → Bool
 part_ok m p = nat_le 1 p && nat_le p m.greatest
 
 abbrev pub version_ok : ℕ → Bool
-version_ok v = nat_le 1 v && nat_le v 1000000000
+version_ok v = nat_le 1 v && nat_le v limit
 
 -- the ranges that every store keeps
 pub record Sound (m : Meaning) : Type 0 where
-  pub small : m.greatest ≤ 100000
+  pub small : m.greatest ≤ last_part
   pub inside : (p : ℕ) → part_ok m p ≡ false → m.records p ≡ None
   pub versions : (p : ℕ) → IfSome (m.records p) (λ k. version_ok k.version ≡ true)
-  pub refuser : m.refusing ≤ 1000000000
-  pub own : m.layer ≤ 1000000000
+  pub refuser : m.refusing ≤ limit
+  pub own : m.layer ≤ limit
 
 -- looking up: the version, and what stands in the caller's place afterwards
 abbrev pub version_in : Option Record → Option ℕ

@@ -1,6 +1,7 @@
-// What a store of accounts is, a store that is lent, and a window over any store.
+// What a store of accounts is, a store that is lent, a window over any store, and what the stores at the bottom share.
 #![tactic(auto)]
 
+pub mod bottom;
 pub mod lent;
 pub mod store;
 pub mod window;

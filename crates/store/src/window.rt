@@ -1,14 +1,12 @@
 // Some parts of a store, seen as a store under other numbers.
 ghost use Rattle.std.specs.Prelude.{◌≡◌};
-ghost use Rattle.store.specs.Windows.{last_seen, seen};
+ghost use Rattle.store.specs.Windows.{last_seen, part_below, seen};
 ghost use Rattle.store.specs.WindowSound.{window_sound};
 
 use crate::store::Store;
 use account::account::Account;
 use account::refusal::Refusal;
-
-// The greatest layer number.
-const LAST_LAYER: u32 = 1_000_000_000;
+use account::tally::LIMIT;
 
 // Part p of the window is part p + offset of the store below, up to the width.
 #[derive(Drop)]
@@ -38,6 +36,15 @@ impl<S: Store> Window<S> {
             .saturating_sub(self.offset)
             .min(self.width)
     }
+
+    // Which part of the store below a part is, if it is seen.
+    fn part_below(&self, part: u32) -> Option<u32>
+        ensures { result ≡ part_below (S.meaning self.now.below) self.now.offset self.now.width part }
+    {
+        (1..=self.last())
+            .contains(&part)
+            .then(|| part + self.offset)
+    }
 }
 
 impl<S: Store> Store for Window<S> {
@@ -50,25 +57,17 @@ impl<S: Store> Store for Window<S> {
     }
 
     fn layer(&self) -> u32 {
-        let below = self.below.layer();
-        if below < LAST_LAYER {
-            below + 1
-        } else {
-            LAST_LAYER
-        }
+        (self.below.layer() + 1).min(LIMIT)
     }
 
     fn look_up(&self, part: u32, into: &mut Account) -> Option<u32> {
-        if part < 1 || part > self.last() {
-            return None;
-        }
-        self.below.look_up(part + self.offset, into)
+        self.below.look_up(self.part_below(part)?, into)
     }
 
     fn put(&mut self, part: u32, version: u32, account: &Account) -> Result<(), Refusal> {
-        if part < 1 || part > self.last() {
+        let Some(below) = self.part_below(part) else {
             return Err(Refusal::OutOfRange);
-        }
-        self.below.put(part + self.offset, version, account)
+        };
+        self.below.put(below, version, account)
     }
 }

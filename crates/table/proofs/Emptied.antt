@@ -1,33 +1,31 @@
 -- Emptying slots from the front, and what emptied slots mean.
-use Rattle.std.proofs.Common.{◌≡◌, ℕ, zero, suc, ◌+◌, ◌<◌, ◌≤◌, min, Bool, true, false, cond, not, eqb, List, [], ◌∷◌, ◌++◌, length, take, drop, set, replicate, is_some, None, Option, sym, refl, ap, ◌∙◌, ⊎_elim, append-nil, arith, take-append-drop}
-use Rattle.std.proofs.lemmas.List.{take_more_set, replicate_more, length-replicate, drop-set-lt, drop_all, drop-drop, take_all, take_at}
+use Rattle.std.proofs.Common.{◌≡◌, ℕ, zero, suc, ◌<◌, min, Bool, true, false, cond, not, eqb, List, ◌++◌, length, take, drop, replicate, is_some, None, Option, refl, ap, ◌∙◌, inl, inr, append-nil, arith}
+use Rattle.std.proofs.lemmas.List.{length-replicate, length-take, drop_all, take_all, take_at, take_min, drop_min}
 use Rattle.std.proofs.lemmas.Bool.{cases_lt, or_left}
 use Rattle.std.specs.Option.{option_map, option_or}
 use Rattle.table.specs.declared.slot.Slot.{Slot}
 use Rattle.table.specs.Tables.{account_of, unused, held, at, any_unused, front_of, table_meaning, empty, emptied}
-use Rattle.table.proofs.Least.{drop-least}
 
-pub empty_more : (xs ys : List Slot) (i : ℕ) → i < length xs → take i xs ≡ replicate i empty → drop i xs ≡ drop i ys
-    → (take (i + 1) (set xs i empty) ≡ replicate (i + 1) empty) × (drop (i + 1) (set xs i empty) ≡ drop (i + 1) ys)
-empty_more xs ys i h t d = (
-  take_more_set xs i empty h ∙ ap (λ l. l ++ empty ∷ []) t ∙ replicate_more i empty,
-  drop-set-lt (i + 1) xs i empty (omega arith) ∙ sym (drop-drop 1 i xs) ∙ ap (drop 1) d ∙ drop-drop 1 i ys,
-)
-
-pub empty_all : (xs ys : List Slot) (i : ℕ) → i ≡ min (length ys) 64 → take i xs ≡ replicate i empty → drop i xs ≡ drop i ys → xs ≡ emptied ys
-empty_all xs ys i e t d =
-    sym (take-append-drop i xs)
-    ∙ ap (λ l. l ++ drop i xs) (t ∙ ap (λ n. replicate n empty) e)
-    ∙ ap (λ l. replicate (min (length ys) 64) empty ++ l) (d ∙ ap (λ n. drop n ys) e ∙ drop-least ys 64)
+pub empty_all : (ss front : List Slot) (n : ℕ) → n ≡ min (length ss) 64 → front ≡ replicate (length (take n ss)) empty → front ++ drop n ss ≡ emptied ss
+empty_all ss front n e f =
+    let least : n ≡ min 64 (length ss) = omega arith in
+    let used : take n ss ≡ front_of ss = ap (λ k. take k ss) least ∙ take_min 64 ss in
+    let rest : drop n ss ≡ drop 64 ss = ap (λ k. drop k ss) least ∙ drop_min 64 ss in
+    ap (λ l. l ++ drop n ss) (f ∙ ap (λ l. replicate (length l) empty) used) ∙ ap (λ l. replicate (length (front_of ss)) empty ++ l) rest
 
 -- the slots that a table uses are then all empty
-pub front-emptied : (ss : List Slot) → front_of (emptied ss) ≡ replicate (min (length ss) 64) empty
-front-emptied ss = ⊎_elim
-    (λ (h : length ss < 64). ap (λ l. take 64 (replicate (min (length ss) 64) empty ++ l)) (drop_all 64 ss (omega arith))
-    ∙ ap (take 64) (append-nil (replicate (min (length ss) 64) empty))
-    ∙ take_all 64 (replicate (min (length ss) 64) empty) (simp length-replicate (omega arith)))
-    (λ (h : 64 ≤ length ss). take_at (replicate (min (length ss) 64) empty) (drop 64 ss) 64 (length-replicate (min (length ss) 64) empty ∙ omega arith))
-    (cases_lt (length ss) 64)
+pub front-emptied : (ss : List Slot) → front_of (emptied ss) ≡ replicate (length (front_of ss)) empty
+front-emptied ss =
+    let n = length (front_of ss) in
+    let long : length (replicate n empty) ≡ n = length-replicate n empty in
+    let most : n ≡ min 64 (length ss) = length-take 64 ss in
+    elim (cases_lt (length ss) 64) [
+      | inl h ↦
+          ap (λ l. take 64 (replicate n empty ++ l)) (drop_all 64 ss (omega arith))
+          ∙ ap (take 64) (append-nil (replicate n empty))
+          ∙ take_all 64 (replicate n empty) (omega arith)
+      | inr h ↦ take_at (replicate n empty) (drop 64 ss) 64 (omega arith)
+    ]
 
 empty-unused : account_of empty ≡ None
 unfolding account_of
@@ -49,7 +47,7 @@ copies_unused (suc n) h = or_left (unused empty) (any_unused (replicate n empty)
 
 -- an empty table has no records, and takes new parts if it has a slot
 pub emptied-none : (ss : List Slot) (p : ℕ) → (table_meaning (emptied ss)).records p ≡ None
-emptied-none ss p = ap (λ l. at l p) (front-emptied ss) ∙ copies_none (min (length ss) 64) p
+emptied-none ss p = ap (λ l. at l p) (front-emptied ss) ∙ copies_none (length (front_of ss)) p
 
 pub emptied-takes : (ss : List Slot) → 0 < length ss → (table_meaning (emptied ss)).takes_new ≡ true
-emptied-takes ss h = ap any_unused (front-emptied ss) ∙ copies_unused (min (length ss) 64) (omega arith)
+emptied-takes ss h = ap any_unused (front-emptied ss) ∙ copies_unused (length (front_of ss)) (omega (arith, length-take 64 ss))

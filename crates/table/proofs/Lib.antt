@@ -1,4 +1,3 @@
-pub mod Least
 pub mod Walks
 pub mod Spots
 pub mod Puts

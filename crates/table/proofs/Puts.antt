@@ -10,9 +10,10 @@ use Rattle.account.specs.declared.tally.Tally.{Tally}
 use Rattle.account.specs.declared.refusal.Refusal.{Refusal}
 use Rattle.account.specs.declared.refusal.Refusal.TheVariants.{OutOfRange, StoreRefused}
 use Rattle.account.proofs.Checked.{checked-account}
+use Rattle.store.specs.Bottoms.{in_range}
 use Rattle.store.specs.Meaning.{allows, put_answer, with_record, After}
 use Rattle.table.specs.declared.slot.Slot.{Slot}
-use Rattle.table.specs.Tables.{in_range, account_of, record_of, at, any_unused, spot_of, front_of, table_meaning, written, slot_of, put_slots}
+use Rattle.table.specs.Tables.{account_of, record_of, at, any_unused, spot_of, front_of, table_meaning, written, slot_of, put_slots}
 use Rattle.table.proofs.Spots.{Aimed, aimed, spot_within, at_set}
 
 -- a put that leaves the slots ys and answers r

@@ -2,11 +2,13 @@
 use Rattle.std.proofs.Common.{◌≡◌, ℕ, zero, suc, ◌+◌, ◌<◌, Bool, true, false, cond, eqb, List, [], ◌∷◌, length, set, is_some, Some, None, Option, sym, refl, ap, ◌∙◌, subst, arith}
 use Rattle.std.proofs.lemmas.Bool.{both_ways, cond-true, cond_both, or_from, or_left, or_right, eqb-true}
 use Rattle.std.proofs.lemmas.Bool.Decides.{nat_tests}
+use Rattle.std.proofs.lemmas.Iterator.Adapters.{position_from-zero}
+use Rattle.std.specs.List.{position, position_from}
 use Rattle.std.specs.Option.{option_map, option_or}
 use Rattle.account.specs.declared.account.Account.{Account}
 use Rattle.store.specs.Meaning.{Record, with_record}
 use Rattle.table.specs.declared.slot.Slot.{Slot}
-use Rattle.table.specs.Tables.{unused, held, holds, record_of, at, any_unused, first_from, spot_of}
+use Rattle.table.specs.Tables.{unused, held, holds, record_of, at, any_unused, spot_of}
 
 -- no slot passes; slot k is the first that passes
 abbrev Without : (Slot → Bool) → List Slot → Type 0
@@ -27,11 +29,14 @@ later : (t : Slot → Bool) (n : ℕ) (s : Slot) (ss : List Slot) → t s ≡ fa
 later t n s ss e None f = (e, f)
 later t n s ss e (Some k) f = (suc f.0, omega arith, (e, f.2))
 
-found : (t : Slot → Bool) (n : ℕ) (ss : List Slot) → Found t n ss (first_from t n ss)
-found t n [] = tt
-found t n (s ∷ ss) =
-    let rest = first_from t (n + 1) ss in
-    cond_both (t s) (Some n) rest (λ o. Found t n (s ∷ ss) o) (λ e. (0, omega arith, e)) (λ e. later t n s ss e rest (found t (n + 1) ss))
+found_from : (t : Slot → Bool) (n : ℕ) (ss : List Slot) → Found t n ss (position_from t n ss)
+found_from t n [] = tt
+found_from t n (s ∷ ss) =
+    let rest = position_from t (n + 1) ss in
+    cond_both (t s) (Some n) rest (λ o. Found t n (s ∷ ss) o) (λ e. (0, omega arith, e)) (λ e. later t n s ss e rest (found_from t (n + 1) ss))
+
+found : (t : Slot → Bool) (ss : List Slot) → Found t 0 ss (position t ss)
+found t ss = subst (Found t 0 ss) (sym (position_from-zero t ss)) (found_from t 0 ss)
 
 -- slot k may become part p's: no slot before it holds p, and it holds no other part
 abbrev pub Spot : ℕ → List Slot → ℕ → Type 0
@@ -103,7 +108,7 @@ module _ (p : ℕ) where
       (old.0, cond-true (is_some (at ss p)) true (any_unused ss) old.1)
 
   pub aimed : (ss : List Slot) → Aimed ss (spot_of ss p)
-  aimed ss = aimed_by ss (first_from (holds p) 0 ss) (first_from unused 0 ss) (found (holds p) 0 ss) (found unused 0 ss)
+  aimed ss = aimed_by ss (position (holds p) ss) (position unused ss) (found (holds p) ss) (found unused ss)
 
 -- a write there makes it p's record, and leaves the others
 module _ (p v : ℕ) (x : Account) (new : Slot) (is-new : (q : ℕ) → record_of q new ≡ with_record (λ _. None) p v x q) (q : ℕ) where

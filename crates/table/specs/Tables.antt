@@ -1,15 +1,12 @@
 -- What the slots of a table mean.
-use Rattle.std.specs.Prelude.{ℕ, ◌+◌, min, Bool, true, false, cond, not, ◌&&◌, ◌||◌, List, [], ◌∷◌, ◌++◌, length, take, drop, replicate, is_some, Some, None, Option, ◌==◌, nat_le, slice_set}
+use Rattle.std.specs.Prelude.{ℕ, Bool, true, false, cond, not, ◌||◌, List, [], ◌∷◌, ◌++◌, length, take, drop, replicate, is_some, Some, None, Option, ◌==◌, slice_set, position}
 use Rattle.std.specs.Option.{option_map, option_or}
 use Rattle.account.specs.declared.account.Account.{Account}
 use Rattle.account.specs.declared.tally.Row.{Row}
 use Rattle.account.specs.Accounts.{checked}
-use Rattle.store.specs.Meaning.{Meaning, Record, version_ok}
+use Rattle.store.specs.Bottoms.{in_range, bottom}
+use Rattle.store.specs.Meaning.{Meaning, Record}
 use Rattle.table.specs.declared.slot.Slot.{Slot}
-
--- the numbers that a record may have
-abbrev pub in_range : ℕ → ℕ → Bool
-in_range p v = nat_le 1 p && nat_le p 100000 && version_ok v
 
 -- the account of a used slot; one with other numbers or without a lawful account is unused
 unfoldable pub account_of : Slot → Option Account
@@ -41,28 +38,16 @@ abbrev pub any_unused : List Slot → Bool
 any_unused [] = false
 any_unused (s ∷ ss) = unused s || any_unused ss
 
--- the place of the first slot that passes a test, where the list begins at place n
-abbrev pub first_from : (Slot → Bool) → ℕ → List Slot → Option ℕ
-first_from t n [] = None
-first_from t n (s ∷ ss) = cond (t s) (Some n) (first_from t (n + 1) ss)
-
 -- the slot for a record of part p: the front one that holds it, else the front one that is unused
 abbrev pub spot_of : List Slot → ℕ → Option ℕ
-spot_of ss p = option_or (first_from (holds p) 0 ss) (first_from unused 0 ss)
+spot_of ss p = option_or (position (holds p) ss) (position unused ss)
 
 -- the slots that a table uses
 abbrev pub front_of : List Slot → List Slot
 front_of ss = take 64 ss
 
 abbrev pub table_meaning : List Slot → Meaning
-table_meaning ss = record {
-  greatest = 100000;
-  records = at (front_of ss);
-  rewrites = true;
-  takes_new = any_unused (front_of ss);
-  refusing = 0;
-  layer = 0;
-}
+table_meaning ss = bottom (at (front_of ss)) true (any_unused (front_of ss))
 
 -- a slot written at a place, if there is one
 abbrev pub written : List Slot → Option ℕ → Slot → List Slot
@@ -82,6 +67,6 @@ no_counts = record { counts = replicate 8 0 }
 abbrev pub empty : Slot
 empty = record { part = 0; version = 0; tally = record { reserve = 0; rows = replicate 8 no_counts; issued = no_counts } }
 
--- the slots of an empty table
+-- the slots of an empty table: those that it uses are empty
 abbrev pub emptied : List Slot → List Slot
-emptied ss = replicate (min (length ss) 64) empty ++ drop 64 ss
+emptied ss = replicate (length (front_of ss)) empty ++ drop 64 ss

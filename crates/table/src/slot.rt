@@ -1,14 +1,10 @@
 // One place in a table's memory.
 ghost use Rattle.std.specs.Prelude.{◌≡◌};
-ghost use Rattle.table.specs.Tables.{in_range, account_of, used, held, holds};
+ghost use Rattle.table.specs.Tables.{account_of, used, held, holds};
 
 use account::account::Account;
 use account::tally::Tally;
-
-// The greatest part of a table.
-pub(crate) const GREATEST: u32 = 100_000;
-
-const LAST_VERSION: u32 = 1_000_000_000;
+use store::bottom::in_range;
 
 // Any numbers at all.
 #[derive(Clone, Copy)]
@@ -18,15 +14,9 @@ pub struct Slot {
     pub tally: Tally,
 }
 
-// May a record have these numbers?
-pub(crate) fn in_range(part: u32, version: u32) -> bool
-    ensures { result ≡ in_range part version }
-{
-    1 <= part && part <= GREATEST && 1 <= version && version <= LAST_VERSION
-}
-
 impl Slot {
     // The account of a used slot.
+    #[tactic(auto, unfolding(crate::specs::Tables::account_of))]
     pub(crate) fn account(&self) -> Option<Account>
         ensures { result ≡ account_of self.now }
     {

@@ -1,19 +1,19 @@
 // A store in a lent list of slots, of which the first 64 are used.
-ghost use Rattle.std.specs.Prelude.{◌≡◌};
+ghost use Rattle.std.specs.Prelude.{◌≡◌, position};
 ghost use Rattle.store.specs.Meaning.{put_answer, After};
-ghost use Rattle.table.specs.Tables.{spot_of, front_of, put_slots, table_meaning, emptied};
+ghost use Rattle.table.specs.Tables.{holds, unused, spot_of, front_of, put_slots, table_meaning, emptied};
 ghost use Rattle.table.specs.TableSound.{table_sound};
 
-use crate::slot::{GREATEST, Slot, in_range};
+use crate::slot::Slot;
 use account::account::Account;
+use account::part::LAST_PART;
 use account::refusal::Refusal;
-use account::tally::{Row, Tally};
+use account::tally::{NO_COUNTS, Tally};
+use store::bottom::{front, in_range};
 use store::store::Store;
 
 // How many slots a table uses.
-const SLOTS: usize = 64;
-
-const NO_COUNTS: Row = Row { counts: [0; 8] };
+pub const SLOTS: usize = 64;
 
 // An unused slot.
 pub const EMPTY: Slot = Slot {
@@ -36,10 +36,8 @@ pub struct Table<'a> {
 fn clear(slots: &mut [Slot])
     ensures { slots.new ≡ emptied slots.old }
 {
-    let n = slots.len().min(SLOTS);
-    for i in 0..n {
-        slots[i] = EMPTY;
-    }
+    let used = slots.len().min(SLOTS);
+    slots[..used].fill(EMPTY);
 }
 
 impl Table<'_> {
@@ -62,25 +60,31 @@ impl Table<'_> {
     fn front(&self) -> &[Slot]
         ensures { result.now ≡ front_of self.now.slots.now }
     {
-        let n = self.slots.len().min(SLOTS);
-        &self.slots[..n]
+        front(&self.slots[..], SLOTS)
     }
 
-    // Where a record of the part goes: to its own slot, else to an unused one, each the nearest to the front.
+    // The place of the front slot that holds the part.
     fn find(&self, part: u32) -> Option<usize>
+        ensures { result ≡ position (holds part) (front_of self.now.slots.now) }
+    {
+        self.front().iter().position(|slot| slot.holds(part))
+    }
+
+    // The place of the front slot that is unused.
+    fn find_unused(&self) -> Option<usize>
+        ensures { result ≡ position unused (front_of self.now.slots.now) }
+    {
+        self.front().iter().position(|slot| !slot.is_used())
+    }
+
+    // Where a record of the part goes: to its own slot, else to an unused one.
+    fn spot(&self, part: u32) -> Option<usize>
         ensures { result ≡ spot_of (front_of self.now.slots.now) part }
     {
-        let front = self.front();
-        let mut unused = None;
-        for (i, slot) in front.iter().enumerate() {
-            if slot.holds(part) {
-                return Some(i);
-            }
-            if unused.is_none() && !slot.is_used() {
-                unused = Some(i);
-            }
+        match self.find(part) {
+            Some(spot) => Some(spot),
+            None => self.find_unused(),
         }
-        unused
     }
 }
 
@@ -90,13 +94,14 @@ impl Store for Table<'_> {
     ghost sound = { λ t. table_sound t.slots.now };
 
     fn greatest(&self) -> u32 {
-        GREATEST
+        LAST_PART
     }
 
     fn layer(&self) -> u32 {
         0
     }
 
+    #[tactic(auto, using(crate::proofs::Walks::look_here, crate::proofs::Walks::look_all))]
     fn look_up(&self, part: u32, into: &mut Account) -> Option<u32> {
         let front = self.front();
         for slot in front {
@@ -116,7 +121,7 @@ impl Store for Table<'_> {
         if !in_range(part, version) {
             return Err(Refusal::OutOfRange);
         }
-        let Some(spot) = self.find(part) else {
+        let Some(spot) = self.spot(part) else {
             return Err(Refusal::StoreRefused { layer: 0 });
         };
         self.slots[spot] = Slot {

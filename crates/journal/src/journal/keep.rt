@@ -4,11 +4,13 @@ ghost use Rattle.store.specs.Meaning.{put_answer, After};
 ghost use Rattle.journal.specs.Journals.{has_room, front_of, journal_meaning, put_bytes};
 ghost use Rattle.journal.specs.JournalSound.{journal_sound};
 
-use super::Journal;
-use crate::entry::{GREATEST, append, front, in_range};
-use crate::skim::{find_latest, read_out};
+use super::{Journal, USED};
+use crate::entry::{Entry, append};
+use crate::skim::find_latest;
 use account::account::Account;
+use account::part::LAST_PART;
 use account::refusal::Refusal;
+use store::bottom::{front, in_range};
 use store::store::Store;
 
 // The bytes that an entry and the zero byte behind it may take.
@@ -19,7 +21,7 @@ impl Journal<'_> {
     fn front(&self) -> &[u8]
         ensures { result.now ≡ front_of self.now.bytes.now }
     {
-        front(&self.bytes[..])
+        front(&self.bytes[..], USED)
     }
 
     // Is there room for another entry?
@@ -36,7 +38,7 @@ impl Store for Journal<'_> {
     ghost sound = { λ j. journal_sound j.bytes.now };
 
     fn greatest(&self) -> u32 {
-        GREATEST
+        LAST_PART
     }
 
     fn layer(&self) -> u32 {
@@ -45,10 +47,8 @@ impl Store for Journal<'_> {
 
     fn look_up(&self, part: u32, into: &mut Account) -> Option<u32> {
         let front = self.front();
-        let Some(found) = find_latest(front, self.end, part) else {
-            return None;
-        };
-        let Ok(account) = read_out(front, found) else {
+        let found = find_latest(front, self.end, part)?;
+        let Ok(account) = found.account(front) else {
             unreachable()
         };
         *into = account;
@@ -66,8 +66,13 @@ impl Store for Journal<'_> {
         if !self.has_room() {
             return Err(Refusal::StoreRefused { layer: 0 });
         }
+        let entry = Entry {
+            part,
+            version,
+            account: *account,
+        };
         let Journal { bytes, end } = self;
-        *end = append(bytes, *end, part, version, account);
+        *end = append(bytes, *end, &entry);
         Ok(())
     }
 }

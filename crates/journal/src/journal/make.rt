@@ -2,15 +2,16 @@
 ghost use Rattle.std.specs.Prelude.{◌≡◌};
 ghost use Rattle.journal.specs.Journals.{started};
 
-use super::Journal;
-use crate::entry::{find_end, front};
+use super::{Journal, USED};
+use crate::entry::find_end;
+use store::bottom::front;
 
 // Makes the bytes an empty journal.
 fn blank(bytes: &mut [u8])
     ensures { bytes.new ≡ started bytes.old }
 {
-    if !bytes.is_empty() {
-        bytes[0] = 0;
+    if let Some(first) = bytes.first_mut() {
+        *first = 0;
     }
 }
 
@@ -27,11 +28,12 @@ impl Journal<'_> {
     pub fn over(bytes: &mut [u8]) -> Journal<'_>
         ensures { result.bytes.now ≡ bytes.old }
     {
-        let end = find_end(front(bytes));
+        let end = find_end(front(bytes, USED));
         Journal { bytes, end }
     }
 
     // Empties the journal.
+    #[tactic(auto, using(crate::proofs::Statements::started_ends))]
     pub fn clear(&mut self)
         ensures { self.new.bytes.now ≡ started self.old.bytes.now }
     {

@@ -1,11 +1,9 @@
-use Rattle.std.proofs.Common.{arith}
-use Rattle.table.proofs.Emptied.{empty_more, empty_all}
+use Rattle.std.proofs.Common.{◌≡◌, min, length, arith, rules}
+use Rattle.table.proofs.Emptied.{empty_all}
 use Rattle.table.proofs.table.clear.Goals as goal
-
-pub loop-i-preserved : goal.loop-i-preserved
-loop-i-preserved c =
-    empty_more c.loop-i.slots c.args.slots.now c.loop-i.i (omega arith) c.loop-i.invariant.0 c.loop-i.invariant.1
 
 pub returns : goal.returns
 returns c =
-    empty_all c.loop-i.slots c.args.slots.now c.loop-i.i (omega arith) c.loop-i.invariant.0 c.loop-i.invariant.1
+    let least : c.min-used.result ≡ min (length c.args.slots.now) 64 = omega (arith, c.min-used.ensures) in
+    let filled = c.fill.ensures.after (λ y h. search rules) in
+    search (rules, empty_all)

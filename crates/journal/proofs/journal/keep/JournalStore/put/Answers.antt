@@ -3,7 +3,6 @@ use Rattle.std.proofs.lemmas.Bool.{and_from}
 use Rattle.journal.proofs.Puts.{put_taken}
 use Rattle.journal.proofs.journal.keep.JournalStore.put.Goals as goal
 
-pub returns : goal.returns
-returns c =
-    let taken = and_from _ _ (sym c.if-not-in_range.ensures) (sym c.if-not-has_room.ensures) in
-    record { answer = put_taken _ c.args.part c.args.version taken; after = c.append.ensures.meaning; bytes = c.append.ensures.bytes }
+pub returns-clause-answer : goal.returns-clause-answer
+returns-clause-answer c =
+    put_taken _ c.args.part c.args.version (and_from _ _ (sym c.if-not-in_range.ensures) (sym c.if-not-has_room.ensures))

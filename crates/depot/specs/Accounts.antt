@@ -1,17 +1,19 @@
 -- Creating an account, and reading the stored ones.
-use Rattle.std.specs.Prelude.{◌≡◌, ℕ, not, ◌&&◌, List, [], ◌∷◌, is_some, Some, None, Ok, Err, Option, Result, nat_le}
+use Rattle.std.specs.Prelude.{◌≡◌, ℕ, cond, not, ◌&&◌, List, [], ◌∷◌, is_some, ok_or, Some, None, Ok, Err, Option, Result, nat_le}
 use Rattle.std.specs.Option.{option_map}
 use Rattle.account.specs.Accounts.{checked, fresh, free_of, stock_of}
 use Rattle.account.specs.Advice.{best_of, number_if}
 use Rattle.account.specs.Bookings.{amount_ok}
-use Rattle.account.specs.Refusals.{Check, refuse, given, unless}
+use Rattle.account.specs.Refusals.{Check, refuse, given, unless, by_answer}
 use Rattle.account.specs.Tallies.{limit}
 use Rattle.account.specs.declared.account.Account.{Account}
 use Rattle.account.specs.declared.depot_number.DepotNumber.{DepotNumber}
 use Rattle.account.specs.declared.refusal.Refusal.{Refusal}
 use Rattle.account.specs.declared.refusal.Refusal.TheVariants.{OutOfRange, NoAccount, AccountExists, StoreRefused}
 use Rattle.store.specs.Meaning.{Record, part_ok, allows, refuser}
-use Rattle.depot.specs.Views.{View, Put, Leaves, by_answer}
+use Rattle.depot.specs.Records.{kept_in}
+use Rattle.depot.specs.Views.{View, Put, Leaves}
+use Rattle.depot.specs.declared.kept.Kept.{Kept}
 
 -- CREATING
 
@@ -45,6 +47,10 @@ read_checks v part = refuse (not (part_ok v.store part)) OutOfRange ∷ given (v
 abbrev pub figure : (Account → ℕ) → Option Record → ℕ
 figure f None = 0
 figure f (Some k) = f k.account
+
+-- the record itself
+abbrev pub kept_answer : View → ℕ → Result Kept Refusal
+kept_answer v part = cond (part_ok v.store part) (ok_or (kept_in (v.store.records part)) NoAccount) (Err OutOfRange)
 
 abbrev pub stock_answer : View → ℕ → Result ℕ Refusal
 stock_answer v part = unless (read_checks v part) (figure stock_of (v.store.records part))

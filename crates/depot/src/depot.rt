@@ -1,21 +1,19 @@
 // A depot: its number, its tills and its store.
-use crate::till::Till;
+use crate::draft::Draft;
 use account::depot_number::DepotNumber;
 use store::store::Store;
 
 pub mod accounts;
 pub mod drafts;
 
-// What a depot keeps besides its store.
-#[derive(Drop)]
-pub struct Inner {
-    number: DepotNumber,
-    tills: [Till; 4],
-    openings: u32,
-}
+// How many tills a depot has.
+const TILLS: usize = 4;
 
 #[derive(Drop)]
 pub struct Depot<S: Store> {
-    inner: Inner,
+    number: DepotNumber,
+    // each has a draft or is idle
+    tills: [Option<Draft>; TILLS],
+    openings: u32,
     store: S,
 }

@@ -3,23 +3,17 @@ ghost use Rattle.depot.specs.Laws.{LowestRefusalAnswers, OpenedSlipIsGiven, Spen
 ghost use Rattle.depot.specs.Sending.{LowestSendingRefusalAnswers};
 
 // Each list of refusals ascends by number.
-pub fn lowest_refusal_answers() -> u8
+pub fn lowest_refusal_answers()
     ensures { LowestRefusalAnswers }
-{
-    0
-}
+{}
 
 // The same of sending.
-pub fn lowest_sending_refusal_answers() -> u8
+pub fn lowest_sending_refusal_answers()
     ensures { LowestSendingRefusalAnswers }
-{
-    0
-}
+{}
 
 // A slip is for one draft, and is spent with it.
-pub fn spent_slip_names_no_draft() -> u8
+pub fn spent_slip_names_no_draft()
     ensures given { OpenedSlipIsGiven }
     ensures spent { SpentSlipNamesNoDraft }
-{
-    0
-}
+{}

@@ -2,7 +2,7 @@
 #![tactic(auto)]
 
 pub mod depot;
+pub mod draft;
 pub mod kept;
 pub mod laws;
 pub mod slip;
-pub mod till;

@@ -1,5 +1,5 @@
 // What a depot hands out for a draft.
-ghost use Rattle.std.specs.Prelude.{◌≡◌};
+ghost use Rattle.std.specs.Prelude.{◌≡◌, None};
 
 use account::refusal::Refusal;
 
@@ -26,4 +26,16 @@ impl Slip {
 pub struct Declined {
     pub refusal: Refusal,
     pub slip: Option<Slip>,
+}
+
+// A refusal after the slip was given up.
+impl From<Refusal> for Declined {
+    ghost from_gives = { λ e r. r ≡ record { refusal = e; slip = None } };
+
+    fn from(refusal: Refusal) -> Declined {
+        Declined {
+            refusal,
+            slip: None,
+        }
+    }
 }

@@ -1,14 +1,10 @@
-use Rattle.std.proofs.Common.{is_some, sym, refl, ap, ◌∙◌, rules}
-use borrow.Author.Rules.{get_or_read}
-use Rattle.depot.specs.Views.{view, draft_of}
-use Rattle.depot.specs.declared.till.Draft.{Draft}
-use Rattle.depot.proofs.Books.{some_draft, booked_there}
+use Rattle.std.proofs.Common.{sym, ◌∙◌, rules}
+use Rattle.depot.specs.Views.{view}
+use Rattle.depot.proofs.Books.{book_answers}
 use Rattle.depot.proofs.depot.Depot.book.Goals as goal
 
-pub returns : goal.returns
-returns g c =
-    let d = c.args.self.now in
-    let v = view d.inner (g.S.Store.meaning d.store) in
-    let s = c.args.slip.now in
-    let there = some_draft (draft_of v s) (ap (is_some {T = Draft}) (sym c.draft.ensures) ∙ c.if-is_none.ensures) in
-    booked_there v s c.args.entry there.0 there.1 _ _ c.book.result _ (search (rules, get_or_read)) c.book.ensures.answer c.book.ensures.after refl
+pub returns-in_err-free : goal.returns-in_err-free
+returns-in_err-free g c =
+    let there = sym c.draft.ensures ∙ c.in_ok-draft.ensures.ok_part in
+    let answer = book_answers (view g.S.Store.meaning c.args.self.now) c.args.slip.now c.args.entry c.in_ok-draft.draft there in
+    search rules

@@ -10,8 +10,6 @@ use Rattle.depot.specs.Accounts.{stock_answer, own_free_answer, advise_answer}
 use Rattle.depot.specs.Views.{View}
 use Rattle.depot.specs.declared.slip.Declined.{Declined}
 use Rattle.depot.specs.declared.slip.Slip.{Slip}
-use Rattle.grammar.specs.declared.answer.Answer.{Answer}
-use Rattle.grammar.specs.declared.answer.Answer.TheVariants as print
 use Rattle.grammar.specs.declared.command.Deed.{Deed}
 use Rattle.grammar.specs.declared.command.Deed.TheVariants.{Create, Open, TakeIn, Issue, HandOver, File, DropDraft, Restart, Send, Receive, Stock, OwnFree, Advise}
 use Rattle.season.specs.declared.call.Call.{Call}
@@ -25,19 +23,10 @@ narrowed n = min n 4294967295
 
 -- the booking that a line asks for
 abbrev pub booking_of : Deed → Option Booking
-booking_of (Create part reserve) = None
-booking_of (Open part) = None
 booking_of (TakeIn n) = Some (booking.TakeIn (narrowed n))
 booking_of (Issue n) = Some (booking.Issue (narrowed n))
 booking_of (HandOver n q) = Some (booking.HandOver (narrowed n) (narrowed q))
-booking_of File = None
-booking_of DropDraft = None
-booking_of Restart = None
-booking_of (Send part) = None
-booking_of (Receive item) = None
-booking_of (Stock part) = None
-booking_of (OwnFree part) = None
-booking_of (Advise part n) = None
+booking_of _ = None
 
 -- a booking is made with the slip
 abbrev pub book_call : Option Slip → Option Booking → Option Call
@@ -55,48 +44,34 @@ call_of o (HandOver n q) = book_call o (booking_of (HandOver n q))
 call_of o File = option_map call.File o
 call_of o DropDraft = option_map call.DropDraft o
 call_of o Restart = Some call.Restart
-call_of o (Send part) = None
-call_of o (Receive item) = None
-call_of o (Stock part) = None
-call_of o (OwnFree part) = None
-call_of o (Advise part n) = None
+call_of o _ = None
 
 -- the slip that stays with the program while the call is made
 abbrev pub left_by : Option Slip → Deed → Option Slip
-left_by o (Create part reserve) = o
-left_by o (Open part) = o
 left_by o (TakeIn n) = None
 left_by o (Issue n) = None
 left_by o (HandOver n q) = None
 left_by o File = None
 left_by o DropDraft = None
 left_by o Restart = None
-left_by o (Send part) = o
-left_by o (Receive item) = o
-left_by o (Stock part) = o
-left_by o (OwnFree part) = o
-left_by o (Advise part n) = o
+left_by o _ = o
 
-abbrev pub told : Result ℕ Refusal → Answer
-told (Ok n) = print.Ok n
-told (Err e) = print.No e
+abbrev pub version_told : Result Slip Refusal → Result ℕ Refusal
+version_told (Ok s) = Ok s.version
+version_told (Err e) = Err e
 
-abbrev pub version_told : Result Slip Refusal → Answer
-version_told (Ok s) = print.Ok s.version
-version_told (Err e) = print.No e
+abbrev pub over_told : Result ℕ Declined → Result ℕ Refusal
+over_told (Ok n) = Ok n
+over_told (Err d) = Err d.refusal
 
-abbrev pub over_told : Result ℕ Declined → Answer
-over_told (Ok n) = print.Ok n
-over_told (Err d) = print.No d.refusal
-
--- what is printed of a reply: for opening the version
-abbrev pub answer_to : Reply → Answer
-answer_to (Created r) = told r
+-- the answer to a reply: for opening the version
+abbrev pub answer_to : Reply → Result ℕ Refusal
+answer_to (Created r) = r
 answer_to (Opened r) = version_told r
-answer_to (Booked s r) = told r
+answer_to (Booked s r) = r
 answer_to (Filed r) = over_told r
 answer_to (Dropped r) = over_told r
-answer_to (Restarted n) = print.Ok n
+answer_to (Restarted n) = Ok n
 
 -- the slip after a reply: a new one, one that was shown, or one that was handed back
 abbrev pub new_slip : Option Slip → Result Slip Refusal → Option Slip
@@ -116,27 +91,20 @@ kept o (Dropped r) = back_slip r
 kept o (Restarted n) = None
 
 -- advice: the depot's number, or 0 for none
-abbrev pub named_told : Result (Option ℕ) Refusal → Answer
-named_told (Ok o) = print.Ok (unwrap_or o 0)
-named_told (Err e) = print.No e
+abbrev pub named_told : Result (Option ℕ) Refusal → Result ℕ Refusal
+named_told (Ok o) = Ok (unwrap_or o 0)
+named_told (Err e) = Err e
 
 -- a booking without a slip: a number out of range comes first
-abbrev pub lacking : Option Booking → Answer
-lacking None = print.No NoDraft
-lacking (Some b) = print.No (cond (in_range b) NoDraft OutOfRange)
+abbrev pub lacking : Option Booking → Refusal
+lacking None = NoDraft
+lacking (Some b) = cond (in_range b) NoDraft OutOfRange
 
 -- the answer where no call is made: figures that are read, and lines that lack their slip
-abbrev pub read_answer : View → Deed → Answer
-read_answer v (Create part reserve) = lacking None
-read_answer v (Open part) = lacking None
-read_answer v (TakeIn n) = lacking (booking_of (TakeIn n))
-read_answer v (Issue n) = lacking (booking_of (Issue n))
-read_answer v (HandOver n q) = lacking (booking_of (HandOver n q))
-read_answer v File = lacking None
-read_answer v DropDraft = lacking None
-read_answer v Restart = lacking None
-read_answer v (Send part) = print.No UnknownLine
-read_answer v (Receive item) = print.No UnknownLine
-read_answer v (Stock part) = told (stock_answer v (narrowed part))
-read_answer v (OwnFree part) = told (own_free_answer v (narrowed part))
+abbrev pub read_answer : View → Deed → Result ℕ Refusal
+read_answer v (Stock part) = stock_answer v (narrowed part)
+read_answer v (OwnFree part) = own_free_answer v (narrowed part)
 read_answer v (Advise part n) = named_told (advise_answer v (narrowed part) (narrowed n))
+read_answer v (Send part) = Err UnknownLine
+read_answer v (Receive item) = Err UnknownLine
+read_answer v deed = Err (lacking (booking_of deed))

@@ -1,4 +1,5 @@
 pub mod Deeds
-pub mod Places
 pub mod Desks
 pub mod Feeds
+pub mod Numbers
+pub mod Places

@@ -1,11 +1,10 @@
 // The slip that is kept between lines.
 ghost use Rattle.std.specs.Prelude.{◌≡◌, None};
-ghost use Rattle.desk.specs.Deeds.{narrowed, booking_of, book_call, call_of, left_by, told, over_told, answer_to, back_slip, kept};
+ghost use Rattle.desk.specs.Deeds.{narrowed, booking_of, book_call, call_of, left_by, over_told, answer_to, back_slip, kept};
 
 use account::booking::Booking;
 use account::refusal::Refusal;
 use depot::slip::{Declined, Slip};
-use grammar::answer::Answer;
 use grammar::command::Deed;
 use season::call::{Call, Reply};
 
@@ -16,10 +15,7 @@ const TILL: u32 = 1;
 pub(crate) fn narrow(n: u64) -> u32
     ensures { result ≡ narrowed n }
 {
-    if n > 4_294_967_295 {
-        return 4_294_967_295;
-    }
-    n as u32
+    u32::try_from(n).unwrap_or(u32::MAX)
 }
 
 // The booking that a line asks for.
@@ -68,14 +64,8 @@ impl Pocket {
                 part: narrow(part),
             }),
             Deed::TakeIn { .. } | Deed::Issue { .. } | Deed::HandOver { .. } => self.book(deed),
-            Deed::File => {
-                let slip = self.slip.take()?;
-                Some(Call::File { slip })
-            }
-            Deed::DropDraft => {
-                let slip = self.slip.take()?;
-                Some(Call::DropDraft { slip })
-            }
+            Deed::File => self.slip.take().map(|slip| Call::File { slip }),
+            Deed::DropDraft => self.slip.take().map(|slip| Call::DropDraft { slip }),
             Deed::Restart => {
                 self.slip = None;
                 Some(Call::Restart)
@@ -94,65 +84,45 @@ impl Pocket {
         Some(Call::Book { slip, booking })
     }
 
-    // What is printed of a reply. A slip that comes with it goes into the pocket.
-    pub fn settle(&mut self, reply: Reply) -> Answer
+    // The answer to a reply. A slip that comes with it goes into the pocket.
+    pub fn settle(&mut self, reply: Reply) -> Result<u64, Refusal>
         ensures answer { result ≡ answer_to reply }
         ensures after { self.new.slip ≡ kept self.old.slip reply }
     {
         match reply {
-            Reply::Created(answer) => told_narrow(answer),
-            Reply::Opened(Ok(slip)) => {
+            Reply::Created(answer) => answer.map(u64::from),
+            Reply::Opened(answer) => {
+                let slip = answer?;
                 let version = slip.version();
                 self.slip = Some(slip);
-                Answer::Ok(u64::from(version))
+                Ok(u64::from(version))
             }
-            Reply::Opened(Err(refusal)) => Answer::No(refusal),
             Reply::Booked { slip, answer } => {
                 self.slip = Some(slip);
-                told(answer)
+                answer
             }
-            Reply::Filed(answer) => self.give_up(answer),
-            Reply::Dropped(answer) => self.give_up(answer),
+            Reply::Filed(answer) | Reply::Dropped(answer) => self.give_up(answer),
             Reply::Restarted(lost) => {
                 self.slip = None;
-                Answer::Ok(u64::from(lost))
+                Ok(u64::from(lost))
             }
         }
     }
 
     // A slip that was given up comes back only if it names no draft.
-    fn give_up(&mut self, answer: Result<u32, Declined>) -> Answer
+    fn give_up(&mut self, answer: Result<u32, Declined>) -> Result<u64, Refusal>
         ensures answer { result ≡ over_told answer }
         ensures after { self.new.slip ≡ back_slip answer }
     {
         match answer {
             Ok(n) => {
                 self.slip = None;
-                Answer::Ok(u64::from(n))
+                Ok(u64::from(n))
             }
             Err(Declined { refusal, slip }) => {
                 self.slip = slip;
-                Answer::No(refusal)
+                Err(refusal)
             }
         }
-    }
-}
-
-// A figure or a refusal, as it is printed.
-pub(crate) fn told(answer: Result<u64, Refusal>) -> Answer
-    ensures { result ≡ told answer }
-{
-    match answer {
-        Ok(n) => Answer::Ok(n),
-        Err(refusal) => Answer::No(refusal),
-    }
-}
-
-fn told_narrow(answer: Result<u32, Refusal>) -> Answer
-    ensures { result ≡ told answer }
-{
-    match answer {
-        Ok(n) => Answer::Ok(u64::from(n)),
-        Err(refusal) => Answer::No(refusal),
     }
 }

@@ -1,16 +1,19 @@
 -- A command is read back from its printed form.
-use Rattle.std.proofs.Common.{◌≡◌, ℕ, ◌^◌, ◌<◌, true, List, [], ◌∷◌, ◌++◌, map, Some, decimal, Option, sym, refl, ap, ◌∙◌, append_assoc, append-nil, arith}
-use Rattle.std.specs.List.{flat_map, AllByRecursion}
-use Rattle.std.specs.Str.{all_ascii_digits}
+use Rattle.std.proofs.Common.{get_or, false, not, ne_eqb, ⊎_elim, ◌≡◌, ℕ, ◌^◌, ◌<◌, true, List, [], ◌∷◌, ◌++◌, map, Some, decimal, Option, sym, refl, ap, ◌∙◌, append-nil, arith}
+use Rattle.std.specs.List.{flat_map, list_all, All, AllByRecursion}
+use Rattle.std.specs.Char.{is_ascii_digit}
+use Rattle.std.proofs.lemmas.Bool.{cases_Bool, true≢false}
+use Rattle.std.proofs.lemmas.List.Elements.{All-from_get_or}
+use Rattle.std.proofs.lemmas.List.Folds.{list_all_at}
+use Rattle.std.proofs.lemmas.List.Splits.{slice_split_at, slice_split_none}
 use Rattle.std.proofs.lemmas.Fmt.{decimal_nonempty, length-decimal-le, digits_decimal, digits_value-decimal}
-use Rattle.std.proofs.lemmas.Str.Parse.{tells_all_ascii_digits}
 use Rattle.grammar.specs.declared.command.Deed.{Deed}
 use Rattle.grammar.specs.declared.command.Deed.TheVariants as deed
 use Rattle.grammar.specs.declared.word.Word.{Word}
 use Rattle.grammar.specs.declared.word.Word.TheVariants.{Create, Open, In, Out, Give, File, Drop, Restart, Send, Recv, Stock, Own, Ask}
-use Rattle.grammar.specs.Grammar.{text, word_of, number_of, fields, fields_after, and_then, of_one, of_two, of_three, at, asked, command_in, command_of, said, word, numbers, ReadsBack}
-use Rattle.grammar.proofs.Cuts.{on_more}
-use Rattle.grammar.proofs.Numbers.{own, number_is}
+use Rattle.grammar.specs.Grammar.{text, word_of, number_of, fields, and_then, of_one, of_two, of_three, at, asked, command_in, command_of, said, word, numbers, ReadsBack}
+use Rattle.grammar.proofs.Cuts.{space}
+use Rattle.grammar.proofs.Numbers.{digits, own, number_is}
 
 -- n has at most ten digits
 abbrev Short : ℕ → Type 0
@@ -21,53 +24,41 @@ number_back n h =
     number_is (decimal n) (decimal_nonempty n (omega arith)) (length-decimal-le 10 n (omega arith) h (omega arith)) (digits_decimal own n (omega arith))
     ∙ ap (λ x. Some x) (digits_value-decimal own n (omega arith))
 
--- digits all go to the first field
-on_digits : (front ds rest : List ℕ) → all_ascii_digits ds ≡ true → fields_after front (ds ++ rest) ≡ fields_after (front ++ ds) rest
-on_digits front [] rest e = ap (λ f. fields_after f rest) (sym (append-nil front))
-on_digits front (b ∷ bs) rest e =
-    let k = tells_all_ascii_digits.parts b bs e in
-    on_more front (bs ++ rest) b (λ s. omega arith) ∙ on_digits (front ++ b ∷ []) bs rest k.1
-    ∙ ap (λ f. fields_after f rest) (append_assoc front (b ∷ []) bs)
+-- there is no space in the bytes
+abbrev Unspaced : List ℕ → Type 0
+Unspaced bs = list_all (λ b. not (space b)) bs ≡ true
 
--- and so do the letters of a word
-on_word : (w : Word) (rest : List ℕ) → fields (text w ++ rest) ≡ fields_after (text w) rest
-unfolding fields_after
-on_word Create rest = refl
-on_word Open rest = refl
-on_word In rest = refl
-on_word Out rest = refl
-on_word Give rest = refl
-on_word File rest = refl
-on_word Drop rest = refl
-on_word Restart rest = refl
-on_word Send rest = refl
-on_word Recv rest = refl
-on_word Stock rest = refl
-on_word Own rest = refl
-on_word Ask rest = refl
+unspaced : (bs : List ℕ) → Unspaced bs → All (λ b. space b ≡ false) bs
+unspaced bs e = All-from_get_or (λ b. space b ≡ false) bs 0 (λ i lt. ⊎_elim (λ (t : space (get_or bs i 0) ≡ true). absurd (true≢false (sym e ∙ list_all_at (λ b. not (space b)) bs i 0 lt (rw t refl)))) (λ n. n) (cases_Bool (space (get_or bs i 0))))
 
-word_back : (w : Word) → word_of (text w) ≡ Some w
-unfolding word_of
-word_back Create = refl
-word_back Open = refl
-word_back In = refl
-word_back Out = refl
-word_back Give = refl
-word_back File = refl
-word_back Drop = refl
-word_back Restart = refl
-word_back Send = refl
-word_back Recv = refl
-word_back Stock = refl
-word_back Own = refl
-word_back Ask = refl
+digits_unspaced : (ds : List ℕ) → list_all is_ascii_digit ds ≡ true → Unspaced ds
+digits_unspaced [] e = refl
+digits_unspaced (d ∷ ds) e = let k = digits.parts d ds e in let n : space d ≡ false = ne_eqb d 32 (λ s. omega arith) in rw (n, digits_unspaced ds k.1)
 
 -- each printed number is a field
-fields_back : (front : List ℕ) (ns : List ℕ) → AllByRecursion Short ns → fields_after front (flat_map (λ f. 32 ∷ f) (map decimal ns)) ≡ front ∷ map decimal ns
-unfolding fields_after
-fields_back front [] h = refl
-fields_back front (n ∷ ns) h =
-    ap (λ fs. front ∷ fs) (on_digits [] (decimal n) _ (digits_decimal own n (omega (arith, h.0))) ∙ fields_back (decimal n) ns h.1)
+fields_back : (front : List ℕ) (ns : List ℕ) → Unspaced front → AllByRecursion Short ns → fields (front ++ flat_map (λ f. 32 ∷ f) (map decimal ns)) ≡ front ∷ map decimal ns
+unfolding fields
+fields_back front [] p h = rw append-nil (slice_split_none space front (unspaced front p))
+fields_back front (n ∷ ns) p h =
+    slice_split_at space front 32 (decimal n ++ flat_map (λ f. 32 ∷ f) (map decimal ns)) (unspaced front p) refl
+    ∙ ap (λ fs. front ∷ fs) (fields_back (decimal n) ns (digits_unspaced (decimal n) (digits_decimal own n (omega (arith, h.0)))) h.1)
+
+-- a word is spelled by its letters alone
+word_back : (w : Word) → (word_of (text w) ≡ Some w) × Unspaced (text w)
+unfolding word_of
+word_back Create = (refl, refl)
+word_back Open = (refl, refl)
+word_back In = (refl, refl)
+word_back Out = (refl, refl)
+word_back Give = (refl, refl)
+word_back File = (refl, refl)
+word_back Drop = (refl, refl)
+word_back Restart = (refl, refl)
+word_back Send = (refl, refl)
+word_back Recv = (refl, refl)
+word_back Stock = (refl, refl)
+word_back Own = (refl, refl)
+word_back Ask = (refl, refl)
 
 then_back : {X : Type 0} (more : ℕ → Option X) (n : ℕ) → Short n → and_then (number_of (decimal n)) more ≡ more n
 then_back more n h = ap (λ o. and_then o more) (number_back n h)
@@ -102,6 +93,6 @@ unfolding command_of
 reads_back c h =
     let w = word c in
     let ns = numbers c in
-    ap command_in (on_word w (flat_map (λ f. 32 ∷ f) (map decimal ns)) ∙ fields_back (text w) ns h)
-    ∙ ap (λ o. and_then o (λ v. asked v (map decimal ns))) (word_back w)
+    ap command_in (fields_back (text w) ns (word_back w).1 h)
+    ∙ ap (λ o. and_then o (λ v. asked v (map decimal ns))) (word_back w).0
     ∙ asked_back c.depot c.deed h

@@ -1,42 +1,47 @@
 -- Where a field ends.
-use Rattle.std.proofs.Common.{◌≡◌, ℕ, ◌+◌, ◌-◌, ◌<◌, true, false, cond, eqb, List, [], ◌∷◌, ◌++◌, length, get_or, take, drop, sym, refl, ap, ◌∙◌, add-zero, arith, eq-eqb, ne_eqb}
-use Rattle.std.proofs.lemmas.List.{at_drop_more, take_more, take_rest, length-drop, get_or-drop}
-use Rattle.grammar.specs.Grammar.{fields, fields_after, no_more}
+use Rattle.std.proofs.Common.{count_by, not, Bool, ◌≤◌, ◌≡◌, ℕ, ◌+◌, ◌-◌, true, false, [], ◌∷◌, List, length, take, drop, Some, None, Option, eqb, sym, refl, arith}
+use Rattle.std.specs.Borrow.{Bor}
+use Rattle.std.specs.List.{position, position_or_len}
+use Rattle.std.specs.Option.{is_some}
+use Rattle.std.proofs.lemmas.Bool.Decides.{nat_tests}
+use Rattle.std.proofs.lemmas.List.{take_rest}
+use Rattle.std.proofs.lemmas.List.Elements.{All-from_get_or}
+use Rattle.std.proofs.lemmas.List.Quantifiers.{position-Some}
+use Rattle.std.proofs.lemmas.List.Splits.{length-slice_split, slice_split_first, slice_split_none}
+use Rattle.std.proofs.lemmas.List.Sums.{fails_before_first, position_or_len_is}
+use Rattle.grammar.specs.Grammar.{fields, no_more}
 use Rattle.grammar.specs.Steps.{behind}
 
--- a byte that is no space goes to the first field
-pub on_more : (front bs : List ℕ) (b : ℕ) → (b ≡ 32 → ⊥) → fields_after front (b ∷ bs) ≡ fields_after (front ++ b ∷ []) bs
-unfolding fields_after
-on_more front bs b h = let e : eqb b 32 ≡ false = ne_eqb b 32 h in rw e
+-- is the byte a space?
+abbrev pub space : ℕ → Bool
+space b = eqb b 32
 
-pub cut_more : (bs : List ℕ) (i : ℕ) → i < length bs → (get_or bs i 0 ≡ 32 → ⊥) → fields_after (take i bs) (drop i bs) ≡ fields_after (take (i + 1) bs) (drop (i + 1) bs)
-cut_more bs i lt h =
-    at_drop_more (fields_after (take i bs)) bs i 0 lt ∙ on_more (take i bs) (drop (i + 1) bs) (get_or bs i 0) h
-    ∙ ap (λ f. fields_after f (drop (i + 1) bs)) (sym (take_more bs i 0 lt))
+module _ (bs : List ℕ) where
+  -- the first field ends at the first space
+  pub cut_at : (i : ℕ) → Some i ≡ position space bs → fields bs ≡ take i bs ∷ fields (take (length bs - (i + 1)) (drop (i + 1) bs))
+  unfolding fields
+  cut_at i e =
+      let k = position-Some space bs i 0 (sym e) in
+      let first : position_or_len space bs ≡ i = position_or_len_is space bs i 0 (omega (arith, k.0)) k.2 (λ _. k.1) in
+      rw take_rest (rw first at (slice_split_first space bs 0 (omega (arith, first, k.0))))
 
--- the first field ends at a space, or with the line
-cut-front : (front rest : List ℕ) → (0 < length rest → get_or rest 0 0 ≡ 32) → fields_after front rest ≡ front ∷ behind rest
-unfolding fields_after
-cut-front front [] h = refl
-cut-front front (b ∷ bs) h = let e : eqb b 32 ≡ true = eq-eqb b 32 (h (omega arith)) in rw e
+  -- or with the line
+  pub cut_none : None ≡ position space bs → fields bs ≡ bs ∷ []
+  unfolding fields
+  cut_none e =
+      let end : length bs ≤ position_or_len space bs = grind (arith, nat_tests) in
+      slice_split_none space bs (All-from_get_or (λ b. space b ≡ false) bs 0 (λ i lt. fails_before_first space bs i 0 (omega (arith, end))))
 
-pub cut-here : (bs : List ℕ) (i : ℕ) → (i < length bs → get_or bs i 0 ≡ 32) → fields_after (take i bs) (drop i bs) ≡ take i bs ∷ behind (drop i bs)
-cut-here bs i h =
-    cut-front (take i bs) (drop i bs)
-    (λ some. let lt : i < length bs = omega (arith, simp length-drop at some) in rw (get_or-drop, add-zero) (h lt))
+  pub some_field : no_more (fields bs) ≡ false
+  unfolding fields
+  some_field = at _ (length-slice_split space bs)
+    where
+      at : (fs : List (List ℕ)) → length fs ≡ count_by space bs + 1 → no_more fs ≡ false
+      at [] e = absurd (omega arith)
+      at (f ∷ fs) e = refl
 
-pub some_field : (front bs : List ℕ) → no_more (fields_after front bs) ≡ false
-unfolding fields_after
-some_field front [] = refl
-some_field front (b ∷ bs) =
-    elim (eqb b 32) as (λ t. no_more (cond t (front ∷ fields_after [] bs) (fields_after (front ++ b ∷ []) bs)) ≡ false)
-    [ true ↦ refl | false ↦ some_field (front ++ b ∷ []) bs ]
-
-pub none-behind : (bs : List ℕ) → no_more (behind bs) ≡ eqb (length bs) 0
-none-behind [] = refl
-none-behind (b ∷ bs) = some_field [] bs ∙ sym (ne_eqb (length (b ∷ bs)) 0 (λ e. omega arith))
-
--- the fields behind a space
-pub behind_some : (bs : List ℕ) → 0 < length bs → behind bs ≡ fields (take (length bs - 1) (drop 1 bs))
-behind_some [] h = absurd (omega arith)
-behind_some (b ∷ bs) h = sym (ap fields (take_rest (b ∷ bs) 1))
+pub none_behind : (rest : Option (Bor (List ℕ))) (b : Bool) → is_some rest ≡ not b → b ≡ no_more (behind rest)
+none_behind None true e = refl
+none_behind None false e = cc
+none_behind (Some bs) true e = cc
+none_behind (Some bs) false e = sym (some_field bs.now)

@@ -2,4 +2,3 @@ pub mod Backs
 pub mod Cuts
 pub mod Numbers
 pub mod Onlys
-pub mod Words

@@ -1,47 +1,32 @@
 -- What a line that is read as a command looks like.
-use Rattle.std.proofs.Common.{◌≡◌, ℕ, true, false, eqb, List, [], ◌∷◌, ◌++◌, map, Some, None, Option, sym, refl, ap, ◌∙◌, subst, ⊎_elim, append_assoc, arith, eqb-true}
-use Rattle.std.specs.List.{flat_map}
+use Rattle.std.proofs.Common.{append-nil, Bool, ◌≡◌, ℕ, true, false, List, [], ◌∷◌, ◌++◌, map, Some, None, Option, sym, refl, ap, ◌∙◌, subst, ⊎_elim, arith}
+use Rattle.std.specs.List.{find, flat_map, join_with_byte}
 use Rattle.std.specs.Str.{bytes_eq}
+use Rattle.std.proofs.lemmas.List.Splits.{join_with_byte-slice_split}
 use Rattle.std.proofs.lemmas.Slice.Eq.{bytes_eq-Decides}
-use Rattle.std.proofs.lemmas.Bool.{cases_Bool, true≢false}
+use Rattle.std.proofs.lemmas.Bool.{cases_Bool}
 use Rattle.grammar.specs.declared.command.Command.{Command}
 use Rattle.grammar.specs.declared.word.Word.{Word}
 use Rattle.grammar.specs.declared.word.Word.TheVariants.{Create, Open, In, Out, Give, File, Drop, Restart, Send, Recv, Stock, Own, Ask}
-use Rattle.grammar.specs.Grammar.{text, words, spelled, word_of, number_of, fields, fields_after, no_more, and_then, first_number, tail, of_none, of_one, of_two, of_three, asked, command_in, command_of, word, numbers, spaced, ReadsOnly}
-use Rattle.grammar.proofs.Cuts.{some_field}
+use Rattle.grammar.specs.Grammar.{text, words, word_of, number_of, fields, and_then, first_number, tail, of_none, of_one, of_two, of_three, asked, command_in, command_of, word, numbers, spaced, ReadsOnly}
 
 none_some : {X : Type 0} (y : X) → None ≡ Some y → ⊥
 none_some y e = let z : ◌≡◌ {A = ℕ} 0 1 = cc in omega arith
 
 -- the line that has these fields
-abbrev line_of : List (List ℕ) → List ℕ
-line_of [] = []
-line_of (f ∷ fs) = f ++ flat_map (λ g. 32 ∷ g) fs
+joined : (f : List ℕ) (fs : List (List ℕ)) → join_with_byte 32 (f ∷ fs) ≡ f ++ flat_map (λ g. 32 ∷ g) fs
+joined f [] = sym (append-nil f)
+joined f (g ∷ fs) = ap (λ l. f ++ 32 ∷ l) (joined g fs)
 
-after_space : (fs : List (List ℕ)) → no_more fs ≡ false → flat_map (λ g. 32 ∷ g) fs ≡ 32 ∷ line_of fs
-after_space [] e = absurd (true≢false e)
-after_space (f ∷ fs) e = refl
-
-line_of-fields : (front bs : List ℕ) → line_of (fields_after front bs) ≡ front ++ bs
-unfolding fields_after
-line_of-fields front [] = refl
-line_of-fields front (b ∷ bs) =
-    ⊎_elim
-    (λ (e : eqb b 32 ≡ true). rw e (ap (λ l. front ++ l) (after_space (fields bs) (some_field [] bs) ∙ (λ i. sym (eqb-true b 32 e) i ∷ line_of-fields [] bs i))))
-    (λ (e : eqb b 32 ≡ false). rw e (line_of-fields (front ++ b ∷ []) bs ∙ append_assoc front (b ∷ []) bs))
-    (cases_Bool (eqb b 32))
-
-spelled_only : (bs : List ℕ) (ws : List Word) (w : Word) → spelled bs ws ≡ Some w → bs ≡ text w
-spelled_only bs [] w e = absurd (none_some w e)
-spelled_only bs (v ∷ ws) w e =
-    ⊎_elim
-    (λ (t : bytes_eq bs (text v) ≡ true). let same : v ≡ w = (let e' = rw t at e in cc) in (bytes_eq-Decides bs (text v)).0 t ∙ ap text same)
-    (λ (t : bytes_eq bs (text v) ≡ false). spelled_only bs ws w (rw t at e))
-    (cases_Bool (bytes_eq bs (text v)))
+-- the first that passes a test passes it
+find_passes : {X : Type 0} (test : X → Bool) (xs : List X) (x : X) → find test xs ≡ Some x → test x ≡ true
+find_passes test [] x e = absurd (none_some x e)
+find_passes test (y ∷ ys) x e =
+    ⊎_elim (λ (t : test y ≡ true). let same : y ≡ x = (let e' = rw t at e in cc) in subst (λ z. test z ≡ true) same t) (λ (t : test y ≡ false). find_passes test ys x (rw t at e)) (cases_Bool (test y))
 
 word_only : (bs : List ℕ) (w : Word) → word_of bs ≡ Some w → bs ≡ text w
 unfolding word_of
-word_only bs w e = spelled_only bs words w e
+word_only bs w e = (bytes_eq-Decides bs (text w)).0 (find_passes (λ v. bytes_eq bs (text v)) words w e)
 
 then_only : {A B : Type 0} (o : Option A) (f : A → Option B) (y : B) → and_then o f ≡ Some y → (x : A) × (o ≡ Some x) × (f x ≡ Some y)
 then_only None f y e = absurd (none_some y e)
@@ -92,13 +77,13 @@ asked_only Own fs c e = two_only c fs (Says Own) _ e (λ d part. (refl, refl))
 asked_only Ask fs c e = three_only c fs (Says Ask) _ e (λ d part amount. (refl, refl))
 
 -- c, which the fields give, is what the line of them says
-says_only : (fs : List (List ℕ)) (c : Command) → command_in fs ≡ Some c → (gs : List (List ℕ)) × (line_of fs ≡ spaced (word c) gs) × (map number_of gs ≡ map (λ n. Some n) (numbers c))
+says_only : (fs : List (List ℕ)) (c : Command) → command_in fs ≡ Some c → (gs : List (List ℕ)) × (join_with_byte 32 fs ≡ spaced (word c) gs) × (map number_of gs ≡ map (λ n. Some n) (numbers c))
 says_only [] c e = absurd (none_some c e)
 says_only (f ∷ fs) c e =
     let k = then_only (word_of f) (λ w. asked w fs) c e in
     let a = asked_only k.0 fs c k.2 in
-    (fs, ap (λ t. t ++ flat_map (λ g. 32 ∷ g) fs) (word_only f k.0 k.1 ∙ ap text a.0), a.1)
+    (fs, joined f fs ∙ ap (λ t. t ++ flat_map (λ g. 32 ∷ g) fs) (word_only f k.0 k.1 ∙ ap text a.0), a.1)
 
 pub reads_only : ReadsOnly
-unfolding command_of
-reads_only line c e = let k = says_only (fields line) c e in (k.0, sym (line_of-fields [] line) ∙ k.1, k.2)
+unfolding command_of fields
+reads_only line c e = let k = says_only (fields line) c e in (k.0, sym (join_with_byte-slice_split 32 line) ∙ k.1, k.2)

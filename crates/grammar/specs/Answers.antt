@@ -1,21 +1,13 @@
 -- The bytes of a printed answer.
-use Rattle.std.specs.Prelude.{ℕ, List, [], ◌∷◌, ◌++◌, codes, decimal}
+use Rattle.std.specs.Prelude.{ℕ, List, [], ◌∷◌, ◌++◌, Ok, Err, Result, codes, decimal}
 use Rattle.account.specs.Refusals.{number_of}
-use Rattle.grammar.specs.declared.answer.Answer.{Answer}
-use Rattle.grammar.specs.declared.answer.Answer.TheVariants.{Ok, No}
+use Rattle.account.specs.declared.refusal.Refusal.{Refusal}
 
-abbrev pub word_in : Answer → List ℕ
-word_in (Ok n) = codes "ok"
-word_in (No why) = codes "no"
-
-abbrev pub number_in : Answer → ℕ
-number_in (Ok n) = n
-number_in (No why) = number_of why
-
--- the word, a space and the number
-abbrev pub answer_text : Answer → List ℕ
-answer_text a = word_in a ++ (codes " " ++ decimal (number_in a))
+-- a word, a space and a number
+abbrev pub answer_text : Result ℕ Refusal → List ℕ
+answer_text (Ok n) = codes "ok " ++ decimal n
+answer_text (Err e) = codes "no " ++ decimal (number_of e)
 
 -- and a line feed
-abbrev pub answer_bytes : Answer → List ℕ
-answer_bytes a = answer_text a ++ 10 ∷ []
+abbrev pub answer_bytes : Result ℕ Refusal → List ℕ
+answer_bytes r = answer_text r ++ 10 ∷ []

@@ -1,8 +1,9 @@
 -- The grammar of a line: a command word and its numbers, with a single space before each number.
 use Rattle.std.specs.Prelude.{◌≡◌, ℕ, ◌^◌, ◌<◌, Bool, true, false, cond, ◌&&◌, List, [], ◌∷◌, ◌++◌, map, length, Some, None, codes, decimal, Option, ◌==◌, nat_le}
-use Rattle.std.specs.List.{flat_map, AllByRecursion}
+use Rattle.std.specs.Char.{is_ascii_digit}
+use Rattle.std.specs.List.{find, flat_map, list_all, slice_split, AllByRecursion}
 use Rattle.std.specs.Str.Parse.{digits_value as value}
-use Rattle.std.specs.Str.{bytes_eq, all_ascii_digits}
+use Rattle.std.specs.Str.{bytes_eq}
 use Rattle.grammar.specs.declared.command.Command.{Command}
 use Rattle.grammar.specs.declared.command.Deed.{Deed}
 use Rattle.grammar.specs.declared.command.Deed.TheVariants as deed
@@ -28,31 +29,21 @@ text Ask = codes "ask"
 abbrev pub words : List Word
 words = Create ∷ Open ∷ In ∷ Out ∷ Give ∷ File ∷ Drop ∷ Restart ∷ Send ∷ Recv ∷ Stock ∷ Own ∷ Ask ∷ []
 
--- the first of the words that the bytes spell
-abbrev pub spelled : List ℕ → List Word → Option Word
-spelled bs [] = None
-spelled bs (w ∷ ws) = cond (bytes_eq bs (text w)) (Some w) (spelled bs ws)
-
 -- the word that the bytes spell
 unfoldable pub word_of : List ℕ → Option Word
-word_of bs = spelled bs words
+word_of bs = find (λ w. bytes_eq bs (text w)) words
 
 -- the number that decimal digits write
 unfoldable pub digits_value : List ℕ → Option ℕ
-digits_value bs = cond (all_ascii_digits bs) (Some (value 10 bs)) None
+digits_value bs = cond (list_all is_ascii_digit bs) (Some (value 10 bs)) None
 
 -- a number is 1 to 10 decimal digits, which may begin with zeros
 abbrev pub number_of : List ℕ → Option ℕ
 number_of bs = cond (nat_le 1 (length bs) && nat_le (length bs) 10) (digits_value bs) None
 
--- the fields of a line whose first field begins with the bytes of `front`
-unfoldable pub fields_after : List ℕ → List ℕ → List (List ℕ)
-fields_after front [] = front ∷ []
-fields_after front (b ∷ bs) = cond (b == 32) (front ∷ fields_after [] bs) (fields_after (front ++ b ∷ []) bs)
-
 -- the fields of a line: what stands between its spaces
-abbrev pub fields : List ℕ → List (List ℕ)
-fields line = fields_after [] line
+unfoldable pub fields : List ℕ → List (List ℕ)
+fields line = slice_split (λ b. b == 32) line
 
 abbrev pub and_then : {X Y : Type 0} → Option X → (X → Option Y) → Option Y
 and_then None f = None

@@ -1,15 +1,19 @@
 // The fields of a line: what stands between its spaces.
-ghost use Rattle.std.specs.Prelude.{◌≡◌, ◌≤◌, ◌∷◌, length, ◌==◌};
-ghost use Rattle.grammar.specs.Grammar.{fields, digits_value, number_of, first_number, tail, no_more};
-ghost use Rattle.grammar.specs.Steps.{digit_of, behind, left};
+ghost use Rattle.std.specs.Prelude.{◌≡◌, ◌∷◌, ◌==◌};
+ghost use Rattle.std.specs.Char.{is_ascii_digit};
+ghost use Rattle.std.specs.List.{list_all};
+ghost use Rattle.grammar.specs.Grammar.{fields, number_of, first_number, tail, no_more};
+ghost use Rattle.grammar.specs.Steps.{behind, left};
+
+use std::str;
 
 const MOST_DIGITS: usize = 10;
 
 // The fields that are still to be read.
 #[derive(Clone, Copy)]
 pub struct Fields<'a> {
-    // Empty, or the space before the next field and all that follows it.
-    rest: &'a [u8],
+    // What stands behind the next space, if there is one.
+    rest: Option<&'a [u8]>,
 }
 
 fn is_space(b: u8) -> bool
@@ -18,47 +22,30 @@ fn is_space(b: u8) -> bool
     b == b' '
 }
 
-// The first field, and what stands behind it.
-fn cut(bytes: &[u8]) -> (&[u8], &[u8])
-    ensures { fields bytes.now ≡ result.0.now ∷ behind result.1.now }
+// The first field, and what stands behind the space that ends it.
+fn cut(bytes: &[u8]) -> (&[u8], Option<&[u8]>)
+    ensures { fields bytes.now ≡ result.0.now ∷ behind result.1 }
 {
-    let mut end = 0;
-    while end < bytes.len() && !is_space(bytes[end]) {
-        end += 1;
-    }
-    bytes.split_at(end)
-}
-
-// The value of a decimal digit.
-fn digit(b: u8) -> Option<u64>
-    ensures { result ≡ digit_of b }
-{
-    match b {
-        b'0'..=b'9' => Some(u64::from(b - b'0')),
-        _ => None,
+    match bytes.iter().position(|b| is_space(*b)) {
+        Some(end) => (&bytes[..end], Some(&bytes[end + 1..])),
+        None => (bytes, None),
     }
 }
 
-// The number that the bytes write, if all are digits.
-fn value_of(digits: &[u8]) -> Option<u64>
-    requires { length digits.now ≤ 10 }
-    ensures { result ≡ digits_value digits.now }
+fn is_digits(bytes: &[u8]) -> bool
+    ensures { result ≡ list_all is_ascii_digit bytes.now }
 {
-    let mut n = 0;
-    for b in digits {
-        n = 10 * n + digit(*b)?;
-    }
-    Some(n)
+    bytes.iter().all(|b| b.is_ascii_digit())
 }
 
 // The number that the field is.
 fn number(field: &[u8]) -> Option<u64>
     ensures { result ≡ number_of field.now }
 {
-    if field.is_empty() || field.len() > MOST_DIGITS {
+    if field.len() > MOST_DIGITS || !is_digits(field) {
         return None;
     }
-    value_of(field)
+    str::from_utf8(field).ok()?.parse().ok()
 }
 
 impl<'a> Fields<'a> {
@@ -75,10 +62,7 @@ impl<'a> Fields<'a> {
         ensures value { result ≡ first_number (left self.old) }
         ensures rest { left self.new ≡ tail (left self.old) }
     {
-        if self.rest.is_empty() {
-            return None;
-        }
-        let (field, rest) = cut(&self.rest[1..]);
+        let (field, rest) = cut(self.rest?);
         self.rest = rest;
         number(field)
     }
@@ -87,6 +71,6 @@ impl<'a> Fields<'a> {
     pub fn is_empty(&self) -> bool
         ensures { result ≡ no_more (left self.now) }
     {
-        self.rest.is_empty()
+        self.rest.is_none()
     }
 }

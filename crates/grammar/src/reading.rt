@@ -11,54 +11,38 @@ use crate::word::Word;
 fn asked_by(word: Word, mut fields: Fields<'_>) -> Option<Command>
     ensures { result ≡ asked word (left fields.entry) }
 {
-    let depot = fields.number()?;
+    let mut number = || fields.number();
+    let depot = number()?;
     let deed = match word {
         Word::Create => {
-            let (part, reserve) = (fields.number()?, fields.number()?);
+            let (part, reserve) = (number()?, number()?);
             Deed::Create { part, reserve }
         }
-        Word::Open => Deed::Open {
-            part: fields.number()?,
-        },
-        Word::In => Deed::TakeIn {
-            amount: fields.number()?,
-        },
-        Word::Out => Deed::Issue {
-            amount: fields.number()?,
-        },
+        Word::Open => Deed::Open { part: number()? },
+        Word::In => Deed::TakeIn { amount: number()? },
+        Word::Out => Deed::Issue { amount: number()? },
         Word::Give => {
-            let (amount, to) = (fields.number()?, fields.number()?);
+            let (amount, to) = (number()?, number()?);
             Deed::HandOver { amount, to }
         }
         Word::File => Deed::File,
         Word::Drop => Deed::DropDraft,
         Word::Restart => Deed::Restart,
-        Word::Send => Deed::Send {
-            part: fields.number()?,
-        },
-        Word::Recv => Deed::Receive {
-            item: fields.number()?,
-        },
-        Word::Stock => Deed::Stock {
-            part: fields.number()?,
-        },
-        Word::Own => Deed::OwnFree {
-            part: fields.number()?,
-        },
+        Word::Send => Deed::Send { part: number()? },
+        Word::Recv => Deed::Receive { item: number()? },
+        Word::Stock => Deed::Stock { part: number()? },
+        Word::Own => Deed::OwnFree { part: number()? },
         Word::Ask => {
-            let (part, amount) = (fields.number()?, fields.number()?);
+            let (part, amount) = (number()?, number()?);
             Deed::Advise { part, amount }
         }
     };
-    if fields.is_empty() {
-        Some(Command { depot, deed })
-    } else {
-        None
-    }
+    fields.is_empty().then_some(Command { depot, deed })
 }
 
 impl Command {
     // The command that the line is, if it is one.
+    #[tactic(auto, using(crate::proofs::Backs::reads_back, crate::proofs::Onlys::reads_only), unfolding(crate::specs::Grammar::command_of))]
     pub fn read(line: &[u8]) -> Option<Command>
         ensures value { result ≡ command_of line.now }
         ensures back { ReadsBack }

@@ -60,11 +60,6 @@ impl Word {
     pub fn read(bytes: &[u8]) -> Option<Word>
         ensures { result ≡ word_of bytes.now }
     {
-        for word in WORDS {
-            if bytes == word.text() {
-                return Some(word);
-            }
-        }
-        None
+        WORDS.iter().find(|word| bytes == word.text()).copied()
     }
 }

@@ -4,7 +4,7 @@
 use desk::desk::Desk;
 use std::io;
 use std::io::{Read, Write};
-use table::table::EMPTY;
+use table::table::{EMPTY, SLOTS};
 
 // How much is read at a time.
 const CHUNK: usize = 65_536;
@@ -21,7 +21,7 @@ fn run(rt: &HostRuntime, desk: &mut Desk<'_>) -> io::Result<()> {
         if n == 0 {
             break;
         }
-        desk.feed(&mut begun, &chunk[0..n], &mut out)?;
+        desk.feed(&mut begun, &chunk[..n], &mut out)?;
         output.write_all(&out)?;
         out.clear();
     }
@@ -32,9 +32,9 @@ fn run(rt: &HostRuntime, desk: &mut Desk<'_>) -> io::Result<()> {
 }
 
 fn main(rt: HostRuntime) -> io::Result<()> {
-    let mut one = [EMPTY; 64];
-    let mut two = [EMPTY; 64];
-    let mut three = [EMPTY; 64];
+    let mut one = [EMPTY; SLOTS];
+    let mut two = [EMPTY; SLOTS];
+    let mut three = [EMPTY; SLOTS];
     let mut desk = Desk::start(&mut one, &mut two, &mut three);
     run(&rt, &mut desk)
 }

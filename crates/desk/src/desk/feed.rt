@@ -4,6 +4,7 @@ ghost use Rattle.desk.specs.Desks.{desk_view};
 ghost use Rattle.desk.specs.Feeds.{Fed, Taken};
 
 use super::Desk;
+use grammar::answer::Answer;
 use std::alloc::AllocError;
 
 impl Desk<'_> {
@@ -26,12 +27,12 @@ impl Desk<'_> {
     fn take(&mut self, begun: &mut Vec<u8>, b: u8, out: &mut Vec<u8>) -> Result<(), AllocError>
         ensures { OnOk result (Taken (desk_view self.old) begun.old.items b out.old.items (desk_view self.new) begun.new.items out.new.items) }
     {
-        if b != b'\n' {
+        if b == b'\n' {
+            Answer(self.line(begun)).print(out)?;
+            begun.clear();
+        } else {
             begun.push(b)?;
-            return Ok(());
         }
-        self.line(begun.as_slice()).print(out)?;
-        begun.clear();
         Ok(())
     }
 }

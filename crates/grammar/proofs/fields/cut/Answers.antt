@@ -1,22 +1,16 @@
-use Rattle.std.proofs.Common.{◌≡◌, ◌<◌, ◌∷◌, length, get_or, sym, ◌∙◌, arith, true-eqb, false-eqb}
-use Rattle.grammar.specs.Steps.{behind}
-use Rattle.grammar.proofs.Cuts.{cut_more, cut-here}
+use Rattle.std.proofs.Common.{◌≡◌, sym, ◌∙◌, rules, tests}
+use Rattle.std.proofs.lemmas.Iterator.{YieldsList-from_slice}
+use Rattle.std.proofs.lemmas.Iterator.Search.{position_from_yields_List}
+use Rattle.std.specs.List.{position}
+use Rattle.grammar.proofs.Cuts.{space, cut_at, cut_none}
 use Rattle.grammar.proofs.fields.cut.Goals as goal
-use Rattle.grammar.proofs.fields.cut.Goals.{then-loop-end-test+else-not-is_space, else-loop-end-test}
+use Rattle.grammar.proofs.fields.cut.Goals.{After-position}
 
-pub loop-end-preserved : goal.loop-end-preserved
-loop-end-preserved c =
-    let more = cut_more c.args.bytes.now c.loop-end.end c.loop-end-test.true (false-eqb _ 32 c.if-not-is_space.ensures) in
-    (omega arith, sym more ∙ c.loop-end.invariant.1)
+found : (c : After-position) → c.position.result ≡ position space c.args.bytes.now
+found c = position_from_yields_List space _ _ c.position.result c.position.ensures.ran (YieldsList-from_slice c.args.bytes.now cc) (λ x b q k. search (rules, tests))
 
-pub returns : goal.returns
-returns c =
-    let space : c.loop-end.end < length c.args.bytes.now → get_or c.args.bytes.now c.loop-end.end 0 ≡ 32 =
-    elim c.loop-end-test.branch [
-      | then-loop-end-test+else-not-is_space w ↦ λ _. true-eqb _ 32 w.if-not-is_space.ensures
-      | else-loop-end-test w ↦ λ lt. absurd (omega (arith, w.loop-end-test.false))
-    ]
-    in
-    let parts = c.split_at.ensures in
-    sym c.loop-end.invariant.1 ∙ cut-here c.args.bytes.now c.loop-end.end space
-    ∙ (λ i. sym parts.front i ∷ behind (sym parts.back i))
+pub returns-in-Some : goal.returns-in-Some
+returns-in-Some c = cut_at c.args.bytes.now c.in-Some.end (sym c.in-Some.is ∙ found (goal.at.returns-in-Some c).After-position)
+
+pub returns-in-None : goal.returns-in-None
+returns-in-None c = cut_none c.args.bytes.now (sym c.in-None.is ∙ found (goal.at.returns-in-None c).After-position)

@@ -1,4 +1,0 @@
-use Rattle.grammar.proofs.answer.+append_decimal.Given as goal
-
-abbrev pub decreases-append_decimal : goal.decreases-append_decimal
-decreases-append_decimal l = l.n

@@ -19,42 +19,43 @@ mod tests {
 
     // A slot with a part, a version and a fresh account.
     fn slot(part: u32, version: u32, reserve: u32) -> Slot {
-        let mut tally = EMPTY.tally;
-        tally.reserve = reserve;
         Slot {
             part,
             version,
-            tally,
+            tally: Tally {
+                reserve,
+                ..EMPTY.tally
+            },
         }
     }
 
-    // The version and the stock of a part; 0 and 0 where it is absent.
-    pub(crate) fn found<S: Store>(store: &S, part: u32) -> (u32, u64) {
+    // The version and the stock of a part.
+    pub(crate) fn found<S: Store>(store: &S, part: u32) -> Option<(u32, u64)> {
         let mut account = Account::blank();
-        match store.look_up(part, &mut account) {
-            Some(version) => (version, account.stock()),
-            None => (0, 0),
-        }
+        let version = store.look_up(part, &mut account)?;
+        Some((version, account.stock()))
     }
 
     #[test]
     fn a_table_reads_memory_as_it_stands(rt: HostRuntime) -> Result<(), Fail> {
-        let mut slots = [EMPTY; 6];
-        slots[0] = slot(7, 1, 1_000_000_001);
-        slots[1] = slot(7, 0, 4);
-        slots[2] = slot(100_001, 1, 4);
-        slots[3] = slot(7, 3, 5);
-        slots[4] = slot(7, 9, 6);
+        let mut slots = [
+            slot(7, 1, 1_000_000_001),
+            slot(7, 0, 4),
+            slot(100_001, 1, 4),
+            slot(7, 3, 5),
+            slot(7, 9, 6),
+            EMPTY,
+        ];
         {
             let mut table = Table::over(&mut slots);
-            let parts = [(7, (3, 5)), (8, (0, 0)), (0, (0, 0)), (100_001, (0, 0))];
+            let parts = [(7, Some((3, 5))), (8, None), (0, None), (100_001, None)];
             for (part, want) in parts {
                 assert_eq!(rt; found(&table, part), want);
             }
             let account = Account::fresh(12)?;
             assert_eq!(rt; table.put(8, 1, &account), Ok(()));
             assert_eq!(rt; table.put(7, 4, &account), Ok(()));
-            assert_eq!(rt; found(&table, 7), (4, 12));
+            assert_eq!(rt; found(&table, 7), Some((4, 12)));
         }
         assert_eq!(rt; slots[0].part, 8);
         assert_eq!(rt; slots[3].version, 4);
@@ -81,8 +82,8 @@ mod tests {
                 assert_eq!(rt; window.put(part, 1, &account), want);
             }
         }
-        assert_eq!(rt; found(&table, 150), (1, 3));
-        assert_eq!(rt; found(&table, 111), (1, 3));
+        assert_eq!(rt; found(&table, 150), Some((1, 3)));
+        assert_eq!(rt; found(&table, 111), Some((1, 3)));
         Ok(())
     }
 

@@ -5,6 +5,9 @@ ghost use Rattle.numbers.specs.Numbers.{number_bytes, room_for, written, front_n
 use account::refusal::Refusal;
 use account::tally::LIMIT;
 
+// The place of a number's first group, which may be zero.
+const FIRST_GROUP: usize = 0;
+
 // The most bytes of a number.
 const LONGEST: usize = 5;
 
@@ -68,7 +71,10 @@ fn front_number(bytes: &[u8]) -> Result<(u32, usize), Fault>
     for (i, byte) in bytes.iter().enumerate() {
         value += u64::from(*byte % 128) * weight;
         if *byte < 128 {
-            if (*byte == 0 && i > 0) || value > u64::from(LIMIT) {
+            if *byte == 0 && i > FIRST_GROUP {
+                return Err(Fault::Wrong);
+            }
+            if value > u64::from(LIMIT) {
                 return Err(Fault::Wrong);
             }
             return Ok((value as u32, i + 1));
@@ -85,7 +91,7 @@ fn front_number(bytes: &[u8]) -> Result<(u32, usize), Fault>
 fn tail(bytes: &[u8], place: usize) -> &[u8]
     ensures { result.now ≡ drop place bytes.now }
 {
-    bytes.get(place..).unwrap_or(&[])
+    &bytes[place.min(bytes.len())..]
 }
 
 // The number at a place, and the place after it.

@@ -2,7 +2,6 @@ use Rattle.std.proofs.Common.{◌≡◌, ℕ, ◌+◌, ◌*◌, ◌%◌, ◌<◌
 use Rattle.numbers.specs.Numbers.{in_range, front_number}
 use Rattle.numbers.proofs.Numbers.{Reads, Last, reads_none, reads_bound, reads_last, reads_full, reads_more, reads_all, last_longer, last_over, last_good}
 use Rattle.numbers.proofs.number.front_number.Goals as goal
-use Rattle.numbers.proofs.number.front_number.Goals.{then-i-gt0-via-then-i-gt0, then-i-gt0-via-else-i-gt0+then-value-from}
 
 pub loop-i-init : goal.loop-i-init
 loop-i-init c = reads_none c.args.bytes.now
@@ -34,23 +33,24 @@ shortest : {b i : ℕ} → (((b ≡ 0) × (i ≤ 0)) ⊎ (b ≡ 0 → ⊥)) → 
 shortest (inl h) = inr (omega arith)
 shortest (inr n) = inl n
 
-pub returns-then-i-gt0 : goal.returns-then-i-gt0
-returns-then-i-gt0 c =
+pub returns-then-i-gt-FIRST_GROUP : goal.returns-then-i-gt-FIRST_GROUP
+returns-then-i-gt-FIRST_GROUP c =
     let here = last _ _ _ _ c.loop-i-test.true c.loop-i.invariant c.if-byte-lt128.true in
-    elim c.then-i-gt0.branch [
-      | then-i-gt0-via-then-i-gt0 w ↦ sym (here ∙ last_longer _ _ _ _ c.if-byte-lt128.true w.if-i-gt0.true.0 w.if-i-gt0.true.1)
-      | then-i-gt0-via-else-i-gt0+then-value-from w ↦
-          let over : 1000000000 < c.loop-i.value + get_or c.args.bytes.now c.loop-i.i 0 % 128 * c.loop-i.weight =
-          rw (← c.from.ensures) (omega arith) in
-          sym (here ∙ last_over _ _ _ _ c.if-byte-lt128.true (shortest w.if-i-gt0.either) over)
-    ]
+    sym (here ∙ last_longer _ _ _ _ c.if-byte-lt128.true c.if-byte-eq0.true (omega arith))
+
+pub returns-then-value-from : goal.returns-then-value-from
+returns-then-value-from c =
+    let here = last _ _ _ _ c.loop-i-test.true c.loop-i.invariant c.if-byte-lt128.true in
+    let over : 1000000000 < c.loop-i.value + get_or c.args.bytes.now c.loop-i.i 0 % 128 * c.loop-i.weight =
+    rw (← c.from.ensures) (omega arith) in
+    sym (here ∙ last_over _ _ _ _ c.if-byte-lt128.true (shortest c.else-byte-eq0.either) over)
 
 pub returns-then-byte-lt128 : goal.returns-then-byte-lt128
 returns-then-byte-lt128 c =
     let here = last _ _ _ _ c.loop-i-test.true c.loop-i.invariant c.if-byte-lt128.true in
     let good : c.loop-i.value + get_or c.args.bytes.now c.loop-i.i 0 % 128 * c.loop-i.weight ≤ 1000000000 =
     rw (← c.from.ensures) (omega arith) in
-    rw c.from.ensures (sym (here ∙ last_good _ _ _ _ c.if-byte-lt128.true (shortest c.if-i-gt0.either) good))
+    rw c.from.ensures (sym (here ∙ last_good _ _ _ _ c.if-byte-lt128.true (shortest c.else-byte-eq0.either) good))
 
 pub returns-then-i-eq-LONGEST : goal.returns-then-i-eq-LONGEST
 unfolding front_number

@@ -1,7 +1,7 @@
 -- All depots in turn, and a figure of each.
 use Rattle.std.proofs.Common.{◌≡◌, ℕ, zero, suc, ◌+◌, ◌-◌, ◌<◌, ◌≤◌, ◌≢◌, List, length, get_or, sym, ap, ◌∙◌, subst, ⊎_elim, arith}
 use denote.Param.Members.{Mut}
-use Rattle.std.specs.Array.{MapsFrom, IsMapOf}
+use Rattle.std.specs.Array.{IsFromFnResultFrom, IsFromFnResult, MapsFrom, IsMapOf}
 use Rattle.std.specs.Fn.{Called}
 use Rattle.std.specs.List.{range_with_len}
 use Rattle.std.proofs.lemmas.Bool.{cases_eq}
@@ -39,3 +39,18 @@ module _ (ds : List DepotNumber) (all : numbers ds ≡ range_with_len 1 8) where
   pub mapped_is : {F B : Type 0} (g : Mut F (DepotNumber × Unit {0}) B) (f : F) (ys : List B) (h : ℕ → B) (e : B) → IsMapOf g f ds ys 8 → ((d : DepotNumber) (y : B) (q : F) → Called g f (d, tt) y q → (y ≡ h d.number) × (q ≡ f)) → ys ≡ eight h
   mapped_is g f ys h e m said =
       eight_is ys e h m.long (λ j a b. let n : (get_or ds (j - 1) first).number ≡ j = omega (arith, number_at (j - 1) first (omega arith)) in mapped-at g f (λ d. h d.number) said ds ys 8 0 (j - 1) first e m.each (omega arith) (omega arith) ∙ ap h n)
+
+-- a figure of each place in turn
+module _ {F B : Type 0} (g : Mut F (ℕ × Unit {0}) B) (f : F) (h : ℕ → B) (said : (i : ℕ) (y : B) (q : F) → Called g f (i, tt) y q → (y ≡ h i) × (q ≡ f)) where
+  made-at : (ys : List B) (n i k : ℕ) (e : B) → IsFromFnResultFrom g f ys i n → i ≤ k → k < i + n → get_or ys k e ≡ h k
+  made-at ys zero i k e m a b = absurd (omega arith)
+  made-at ys (suc n) i k e m a b =
+      let call = said i m.1 m.0 m.3 in
+      ⊎_elim
+      (λ (is : k ≡ i). subst (λ (j : ℕ). get_or ys j e ≡ h j) (sym is) (m.2.1 e ∙ call.0))
+      (λ (ne : k ≢ i). made-at ys n (i + 1) k e (subst (λ (q : F). IsFromFnResultFrom g q ys (i + 1) n) call.1 m.4) (omega arith) (omega arith))
+      (cases_eq k i)
+
+  pub made_is : (ys : List B) (e : B) → IsFromFnResult g f ys 8 → ys ≡ eight (λ j. h (j - 1))
+  made_is ys e m =
+      eight_is ys e (λ j. h (j - 1)) m.long (λ j a b. made-at ys 8 0 (j - 1) e m.each (omega arith) (omega arith))

@@ -1,5 +1,5 @@
 -- A tally whose counts are those of a counter is the tally of that counter.
-use Rattle.std.proofs.Common.{◌≡◌, ℕ, ◌+◌, ◌-◌, ◌≤◌, Bool, true, cond, ◌&&◌, eqb, ◌≢◌, List, length, get_or, set, sym, refl, ap, ◌∙◌, subst, ⊎_elim, arith}
+use Rattle.std.proofs.Common.{◌≡◌, ℕ, ◌+◌, ◌-◌, ◌<◌, ◌≤◌, Bool, true, cond, ◌&&◌, eqb, ◌≢◌, List, length, get_or, set, sym, refl, ap, ◌∙◌, subst, ⊎_elim, arith, below_more}
 use mathlib.Core.Path.{fun_ext}
 use Rattle.std.proofs.lemmas.List.FromFn.{length-map-range_with_len, get_or-map-range_with_len}
 use Rattle.std.proofs.lemmas.List.{ext_get_or, get_or-set_same, get_or-set_other, length-set}
@@ -122,6 +122,25 @@ module _ (t : Tally) (s : Shape t) (i n : ℕ) (i1 : 1 ≤ i) (i8 : i ≤ 8) whe
 -- a row of eight figures, added up
 pub total-row : (f : ℕ → ℕ) → total 8 (count (row_of f)) ≡ total 8 f
 total-row f = total-same 8 f (count (row_of f)) (λ k a b. eight-at f 0 k a b)
+
+-- a loop that has written f 1 to f i over ys
+abbrev pub Filling : {X : Type 0} → X → (ℕ → X) → List X → ℕ → List X → Type 0
+Filling d f ys i xs = ((k : ℕ) → k < i → get_or xs k d ≡ f (k + 1)) × (length xs ≡ length ys) × (0 < i → length ys ≡ 8)
+
+module _ {X : Type 0} (d : X) (f : ℕ → X) (ys : List X) where
+  pub filling_none : Filling d f ys 0 ys
+  filling_none = ((λ k h. absurd (omega arith)), refl, λ h. absurd (omega arith))
+
+  pub filling_more : (i : ℕ) (xs : List X) (v : X) → Filling d f ys i xs → length ys ≡ 8 → i < 8 → v ≡ f (i + 1) → Filling d f ys (i + 1) (set xs i v)
+  filling_more i xs v s l h e = (
+    below_more _ _ (λ k b. get_or-set_other xs i k v d (λ same. absurd (omega arith)) ∙ s.0 k b) (get_or-set_same xs i v d (omega (arith, s.1)) ∙ e),
+    length-set xs i v ∙ s.1,
+    (λ _. l),
+  )
+
+  pub filling_all : (i : ℕ) (xs : List X) → Filling d f ys i xs → i ≡ 8 → xs ≡ eight f
+  filling_all i xs s e =
+      eight_is xs d f (s.1 ∙ s.2 (omega arith)) (λ j a b. let back : j - 1 + 1 ≡ j = omega arith in s.0 (j - 1) (omega arith) ∙ ap f back)
 
 -- counters that agree at the eight depots have one tally
 pub tabled_same : (c d : Counter)

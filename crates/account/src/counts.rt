@@ -38,14 +38,14 @@ impl Tally {
     pub(crate) fn handed(&self, from: DepotNumber, to: DepotNumber) -> u32
         ensures { result ≡ handed self.now from.number to.number }
     {
-        self.row(from).count(to)
+        self.rows[from.index()].counts[to.index()]
     }
 
     // What a depot issued.
     pub(crate) fn issued_by(&self, depot: DepotNumber) -> u32
         ensures { result ≡ issued_by self.now depot.number }
     {
-        self.issued.count(depot)
+        self.issued.counts[depot.index()]
     }
 
     // What one depot handed over to another, or took in itself, is more by an amount.
@@ -54,9 +54,9 @@ impl Tally {
         requires shape { shaped self.now ≡ true }
         ensures { result ≡ tally_of (transfer (counter_of self.now) from.number to.number amount) }
     {
-        let mut rows = self.rows;
-        rows[from.index()] = self.row(from).raised(to, amount);
-        Tally { rows, ..*self }
+        let mut tally = *self;
+        tally.rows[from.index()].counts[to.index()] += amount;
+        tally
     }
 
     // What a depot issued is more by an amount.

@@ -46,9 +46,8 @@ impl Tally {
     pub(crate) fn gave(&self, depot: DepotNumber) -> u64
         ensures { result ≡ gave (counter_of self.now) depot.number }
     {
-        let row = self.row(depot);
-        let others = row.total() - u64::from(row.count(depot));
-        others + u64::from(self.issued.count(depot))
+        let others = self.row(depot).total() - u64::from(self.handed(depot, depot));
+        others + u64::from(self.issued_by(depot))
     }
 
     // What all depots took in.

@@ -6,6 +6,7 @@ ghost use Rattle.account.specs.Tallies.{count, handed, row_of};
 
 use crate::depot_number::DepotNumber;
 use crate::tally::{Row, Tally};
+use std::array;
 
 impl Row {
     // The greater of each pair of counts.
@@ -43,7 +44,7 @@ impl Tally {
     {
         Tally {
             reserve: self.reserve,
-            rows: DepotNumber::all().map(|depot| self.row(depot).greater(other.row(depot))),
+            rows: array::from_fn(|i| self.rows[i].greater(other.rows[i])),
             issued: self.issued.greater(other.issued),
         }
     }
@@ -53,7 +54,7 @@ impl Tally {
         ensures { result ≡ row_of (λ i. total 8 (λ j. rose (handed self.now i j) (handed after.now i j))) }
     {
         Row {
-            counts: DepotNumber::all().map(|depot| self.row(depot).risen(after.row(depot))),
+            counts: array::from_fn(|i| self.rows[i].risen(after.rows[i])),
         }
     }
 

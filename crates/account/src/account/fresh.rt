@@ -6,7 +6,6 @@ ghost use Rattle.account.specs.Joins.{numbers_in};
 use super::Account;
 use crate::refusal::Refusal;
 use crate::tally::{LIMIT, Row, Tally};
-use std::array;
 
 // Row i of counts that stand one after another.
 fn cut(flat: &[u32; 72], i: usize) -> Row
@@ -19,15 +18,19 @@ fn cut(flat: &[u32; 72], i: usize) -> Row
 }
 
 // A reserve and 72 zero counts.
-#[tactic(auto, unfolding(crate::specs::Tallies::eight))]
 fn zeros(reserve: u32) -> Tally
     ensures { result ≡ fresh reserve }
 {
     let flat = [0; 72];
+    let issued = cut(&flat, 8);
+    let mut rows = [issued; 8];
+    for i in 0..8 {
+        rows[i] = cut(&flat, i);
+    }
     Tally {
         reserve,
-        rows: array::from_fn(|i| cut(&flat, i)),
-        issued: cut(&flat, 8),
+        rows,
+        issued,
     }
 }
 

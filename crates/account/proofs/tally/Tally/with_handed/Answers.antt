@@ -1,6 +1,6 @@
-use Rattle.std.proofs.Common.{◌≡◌, ℕ, ◌-◌, List, set, ap, ◌∙◌}
-use Rattle.account.specs.Tallies.{row, row_raised}
-use Rattle.account.specs.declared.tally.Row.{Row}
+use Rattle.std.proofs.Common.{ℕ, ◌+◌, ◌-◌, get_or, set, ap, ◌∙◌}
+use Rattle.account.specs.Tallies.{no_row}
+use Rattle.account.specs.declared.tally.Tally.{Tally}
 use Rattle.account.proofs.Tabled.{shape, handed-raised}
 use Rattle.account.proofs.tally.Tally.with_handed.Goals as goal
 
@@ -10,6 +10,5 @@ returns c =
     let p = c.args.from in
     let q = c.args.to in
     let n = c.args.amount in
-    let raise : c.raised.result ≡ row_raised (row t p.number) q.number n = c.raised.ensures ∙ ap (λ (r : Row). row_raised r q.number n) c.row.ensures in
-    let rows : set t.rows c.index.result c.raised.result ≡ set t.rows (p.number - 1) (row_raised (row t p.number) q.number n) = ap (λ (k : ℕ). set t.rows k c.raised.result) c.index.ensures.place ∙ ap (λ (r : Row). set t.rows (p.number - 1) r) raise in
-    ap (λ (rs : List Row). record { reserve = t.reserve; rows = rs; issued = t.issued }) rows ∙ handed-raised t (shape t c.requires.shape) p.number n p.least p.most q.number q.least q.most
+    let raise : ℕ → ℕ → Tally = λ i j. let counts = (get_or t.rows i no_row).counts in record { reserve = t.reserve; rows = set t.rows i (record { counts = set counts j (get_or counts j 0 + n) }); issued = t.issued } in
+    ap (λ (i : ℕ). raise i c.index-2.result) c.index.ensures.place ∙ ap (raise (p.number - 1)) c.index-2.ensures.place ∙ handed-raised t (shape t c.requires.shape) p.number n p.least p.most q.number q.least q.most

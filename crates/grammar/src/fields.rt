@@ -1,11 +1,7 @@
 // The fields of a line: what stands between its spaces.
 ghost use Rattle.std.specs.Prelude.{◌≡◌, ◌∷◌, ◌==◌};
-ghost use Rattle.std.specs.Char.{is_ascii_digit};
-ghost use Rattle.std.specs.List.{list_all};
 ghost use Rattle.grammar.specs.Grammar.{fields, number_of, first_number, tail, no_more};
 ghost use Rattle.grammar.specs.Steps.{behind, left};
-
-use std::str;
 
 const MOST_DIGITS: usize = 10;
 
@@ -32,20 +28,21 @@ fn cut(bytes: &[u8]) -> (&[u8], Option<&[u8]>)
     }
 }
 
-fn is_digits(bytes: &[u8]) -> bool
-    ensures { result ≡ list_all is_ascii_digit bytes.now }
-{
-    bytes.iter().all(|b| b.is_ascii_digit())
-}
-
 // The number that the field is.
 fn number(field: &[u8]) -> Option<u64>
     ensures { result ≡ number_of field.now }
 {
-    if field.len() > MOST_DIGITS || !is_digits(field) {
+    if field.is_empty() || field.len() > MOST_DIGITS {
         return None;
     }
-    str::from_utf8(field).ok()?.parse().ok()
+    let mut n = 0;
+    for b in field {
+        if !b.is_ascii_digit() {
+            return None;
+        }
+        n = 10 * n + u64::from(b - b'0');
+    }
+    Some(n)
 }
 
 impl<'a> Fields<'a> {

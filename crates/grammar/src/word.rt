@@ -60,6 +60,11 @@ impl Word {
     pub fn read(bytes: &[u8]) -> Option<Word>
         ensures { result ≡ word_of bytes.now }
     {
-        WORDS.iter().find(|word| bytes == word.text()).copied()
+        for word in WORDS {
+            if bytes == word.text() {
+                return Some(word);
+            }
+        }
+        None
     }
 }

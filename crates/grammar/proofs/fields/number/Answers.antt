@@ -1,20 +1,18 @@
-use Rattle.std.proofs.Common.{sym, ◌∙◌, arith}
-use Rattle.grammar.proofs.Numbers.{number_long, number_other, digits_read, text_same, number_read}
+use Rattle.std.proofs.Common.{◌+◌, ◌*◌, sym, subst, rules, arith, false-eqb}
+use Rattle.grammar.proofs.Numbers.{Sofar, number_at, sofar_small, sofar_more, sofar_all}
 use Rattle.grammar.proofs.fields.number.Goals as goal
-use Rattle.grammar.proofs.fields.number.Goals.{then-field-gt-MOST_DIGITS-via-then-field-gt-MOST_DIGITS, then-field-gt-MOST_DIGITS-via-else-field-gt-MOST_DIGITS+then-not-is_digits}
 
-pub returns-then-field-gt-MOST_DIGITS : goal.returns-then-field-gt-MOST_DIGITS
-returns-then-field-gt-MOST_DIGITS c =
-    elim c.then-field-gt-MOST_DIGITS.branch [
-      | then-field-gt-MOST_DIGITS-via-then-field-gt-MOST_DIGITS w ↦ sym (number_long c.args.field.now (omega (arith, w.if-field-gt-MOST_DIGITS.true)))
-      | then-field-gt-MOST_DIGITS-via-else-field-gt-MOST_DIGITS+then-not-is_digits w ↦ sym (number_other c.args.field.now (sym w.if-not-is_digits.ensures))
-    ]
+pub returns-then-not-is_ascii_digit : goal.returns-then-not-is_ascii_digit
+returns-then-not-is_ascii_digit c = sym (number_at c.args.field.now c.loop-b.b-index c.loop-b-test.true (sym c.if-not-is_ascii_digit.ensures.value))
 
-pub returns-in_err-ok : goal.returns-in_err-ok
-returns-in_err-ok c =
-    absurd (digits_read c.args.field.now _ c.from_utf8.result c.from_utf8.ensures.cases (sym c.if-not-is_digits.ensures) (sym c.in_err-ok.was ∙ c.ok.ensures.value))
+pub overflow_mul-n : goal.overflow_mul-n
+overflow_mul-n c = omega (arith, sofar_small _ _ _ c.loop-b.invariant (omega arith))
+
+pub overflow_add-n : goal.overflow_add-n
+overflow_add-n c = omega (arith, sofar_small _ _ _ c.loop-b.invariant (omega arith))
+
+pub loop-b-preserved : goal.loop-b-preserved
+loop-b-preserved c = subst (λ x. Sofar c.args.field.now (c.loop-b.b-index + 1) (10 * c.loop-b.n + x)) (search rules) (sofar_more _ _ _ c.loop-b.invariant c.loop-b-test.true (search rules))
 
 pub returns : goal.returns
-returns c =
-    let same = text_same c.args.field.now _ c.from_utf8.result c.in_ok-ok.field-0 c.from_utf8.ensures.cases (sym c.in_ok-ok.was ∙ c.ok.ensures.value) in
-    c.ok-2.ensures.value ∙ number_read c.args.field.now c.parse.result (rw same at c.parse.ensures.value.0) (omega arith) (sym c.if-not-is_digits.ensures)
+returns c = sym (sofar_all _ _ _ c.loop-b.invariant c.loop-b-test.false (omega (arith, false-eqb _ 0 c.if-is_empty.ensures)) (omega arith))
